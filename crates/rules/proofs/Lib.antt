@@ -1,0 +1,14 @@
+pub mod Bench
+pub mod ListLaws
+pub mod StateLaws
+pub mod RunLaws
+pub mod ClosureArc
+pub mod Slots
+pub mod Sweep
+pub mod Trail
+pub mod ClosureCar
+pub mod Demand3
+pub mod EachLaws
+pub mod Ranges
+pub mod Closure
+pub mod CheckLaws

@@ -1,0 +1,13 @@
+pub mod Lists
+pub mod State
+pub mod Calls
+pub mod Ghosts
+pub mod Stages
+pub mod Arc
+pub mod Car
+pub mod Check
+pub mod Counts
+pub mod Batch
+pub mod Public
+pub mod Decimal
+pub mod Program
