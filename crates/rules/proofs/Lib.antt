@@ -12,3 +12,4 @@ pub mod EachLaws
 pub mod Ranges
 pub mod Closure
 pub mod CheckLaws
+pub mod DecimalLaws
