@@ -83,8 +83,8 @@ pub record Row : Type 0 where
 
 abbrev _is_ : Shown → Shown → Row
 _is_ g w = record { given = g; wanted = w }
-infix 5 _is_
 
+infix 5 _is_
 abbrev printed : List ℕ → List ℕ → Row
 printed input text = prints (program input) is prints text
 
@@ -128,7 +128,7 @@ table =
     -- P2. First byte 02: the same lines; steps 2, then 1. The first victim was referenced when the sweep began.
     printed (0x02 ∷ p1) p1-lines ∷
     (carAnswers 2 (p2 ++ Insert 7 12 ∷ Insert 5 13 ∷ []) is
-      answers (new ∷ new ∷ Hit 10 ∷ New (out 5 10 (ghost second)) 2 ∷ New (out 6 11 (ghost first)) 1 ∷ [])) ∷
+    answers (new ∷ new ∷ Hit 10 ∷ New (out 5 10 (ghost second)) 2 ∷ New (out 6 11 (ghost first)) 1 ∷ [])) ∷
     (carClocks 2 p2 is clocks (5 ∷ []) []) ∷
     -- P3. ARC c=1: insert 8, get 8, insert 9, insert 10: T1 10, B1 9, B2 8, total 3 = 2c+1.
     (arcState 1 (ins 8 ∷ Get 8 ∷ ins 9 ∷ ins 10 ∷ []) is state 0 ((10 ∷ []) ∷ [] ∷ (9 ∷ []) ∷ (8 ∷ []) ∷ [])) ∷
@@ -156,7 +156,6 @@ table =
     (reads (pageOf (0x80 ∷ 0x00 ∷ [])) is reads (Faulty (NotShortest 1))) ∷
     (reads (pageOf (replicate 9 0xFF ++ 0x01 ∷ [])) is reads (Value (2 ^ 64 - 1) 10)) ∷
     (reads (pageOf (replicate 9 0xFF ++ 0x02 ∷ [])) is reads (Faulty (TooLarge 9))) ∷
-
     -- Slips that P1 to P9 let pass: CAR's ghosts are not trimmed; the target moves before the replacement, in both policies; a ghost list holds
     -- at most c and drops its oldest; an update moves an ARC page and no CAR page; T1 = target in a plain miss, and on a B2 hit
     (carState 2 (ins 1 ∷ ins 2 ∷ ins 3 ∷ Remove 2 ∷ ins 4 ∷ []) is state 1 ((3 ∷ 4 ∷ []) ∷ [] ∷ (1 ∷ []) ∷ [] ∷ [])) ∷
@@ -172,7 +171,6 @@ table =
     (arcState 2 (ins 1 ∷ ins 2 ∷ ins 3 ∷ ins 1 ∷ Clear ∷ []) is state 1 ([] ∷ [] ∷ [] ∷ [] ∷ [])) ∷
     (carClocks 3 (ins 1 ∷ ins 2 ∷ ins 3 ∷ Remove 1 ∷ Remove 3 ∷ []) is clocks [] (2 ∷ 0 ∷ [])) ∷
     (carClocks 3 (ins 1 ∷ Get 1 ∷ Clear ∷ []) is clocks [] (0 ∷ 1 ∷ 2 ∷ [])) ∷
-
     -- Refusals of the program, and its other lines
     printed [] (bytes "stop 5 at 0\n") ∷
     printed (0x03 ∷ 0x02 ∷ []) (bytes "stop 4 at 0\n") ∷
@@ -183,7 +181,7 @@ table =
     printed (0x01 ∷ 0x02 ∷ 0x02 ∷ 0x05 ∷ 0x0A ∷ 0x02 ∷ 0x05 ∷ []) (bytes "new\nstop 5 at 5\n") ∷
     printed (0x02 ∷ 0x02 ∷ 0x02 ∷ 0x05 ∷ 0x0A ∷ 0x06 ∷ 0x80 ∷ []) (bytes "new\nstop 4 at 5\n") ∷
     printed (0x02 ∷ 0x02 ∷ 0x02 ∷ 0x05 ∷ 0x0A ∷ 0x05 ∷ 0x05 ∷ 0x05 ∷ 0x06 ∷ 0x02 ∷ 0x05 ∷ 0x0B ∷ 0x03 ∷ 0x05 ∷ 0x03 ∷ 0x05 ∷ 0x04 ∷ [])
-      (bytes "new\nsee 10\nno\nold 10\ngone 11\nabsent\nclear\nend 7\n") ∷
+    (bytes "new\nsee 10\nno\nold 10\ngone 11\nabsent\nclear\nend 7\n") ∷
     (prints (decimal (2 ^ 64 - 1)) is prints (bytes "18446744073709551615")) ∷
     -- The trace check: an operation cut at its end is not counted; the offset is the operation's; an empty trace
     (checks (checkOf (0x04 ∷ 0x02 ∷ 0x05 ∷ [])) is checked 1 5 1) ∷
@@ -196,7 +194,7 @@ table =
     (answers (map (λ n. Arc.does (Ask (Listing n)) (run Arc.does (ins 1 ∷ ins 2 ∷ []) (Arc.new 2) .state) .answer) (1 ∷ 2 ∷ 3 ∷ [])) is answers (Refused 6 ∷ Num 2 ∷ Num 2 ∷ [])) ∷
     -- The counts of a batch: those before a refusal count
     (counting (batched Car.does (0x02 ∷ 0x05 ∷ 0x0A ∷ 0x01 ∷ 0x05 ∷ 0x01 ∷ 0x06 ∷ 0x02 ∷ 0x05 ∷ 0x0B ∷ 0x02 ∷ 0x06 ∷ 0x0B ∷ 0x03 ∷ 0x06 ∷ 0x03 ∷ 0x06 ∷ 0x07 ∷ []) noCounts (some (Car.new 1)) .counts) is
-      counting (counts 2 1 1 2 1 2 1)) ∷
+    counting (counts 2 1 1 2 1 2 1)) ∷
     (counting (batched Car.does (0x04 ∷ []) (counts 1 2 3 4 5 6 7) none .counts) is counting (counts 1 2 3 4 5 6 7)) ∷
     []
 

@@ -109,7 +109,11 @@ module _ {X : Type 0} where
       let w = and-yes (leb (length (s .B2)) (s .c)) (leb (s .target) (s .c)) (v .1) in
       record {
         distinct = λ x. omega (arith, four x s, distinct-once _ (t .0) x);
-        room = leb-true _ _ (u .0); ghosts1 = leb-true _ _ (v .0); ghosts2 = leb-true _ _ (w .0); aim = leb-true _ _ (w .1) }
+        room = leb-true _ _ (u .0);
+        ghosts1 = leb-true _ _ (v .0);
+        ghosts2 = leb-true _ _ (w .0);
+        aim = leb-true _ _ (w .1);
+      }
 
   yes-sound : (s : Lists X) → Sound s → soundTest s ≡ true
   unfolding soundTest
@@ -151,7 +155,8 @@ module _ {X : Type 0} where
         recent = fits-both (s .T1) (each-left IsPage a b both) (each-left IsFrame (map (λ e. e .frame) (s .T1)) (map (λ e. e .frame) (s .T2)) f);
         frequent = fits-both (s .T2) (each-right IsPage a b both) (each-right IsFrame (map (λ e. e .frame) (s .T1)) (map (λ e. e .frame) (s .T2)) f);
         ghosts1 = each-right IsPage (a ++ b) (s .B1) left;
-        ghosts2 = each-right IsPage (a ++ b ++ s .B1) (s .B2) p }
+        ghosts2 = each-right IsPage (a ++ b ++ s .B1) (s .B2) p;
+      }
 
   yes-ranged : (s : Lists X) → Ranged s → rangedTest s ≡ true
   unfolding rangedTest
@@ -167,13 +172,14 @@ module _ {X : Type 0} where
 -- ---- ARC's test, and CAR's
 pub arc-test : (s : Arc) → (arcTest s ≡ true) ↔ Arc.WellFormed s
 unfolding arcTest
-arc-test s =
-    ( λ h. let t = and-yes (soundTest s) _ h in
-           let r = and-yes (rangedTest s) _ (t .1) in
-           let u = and-yes (leb (length (s .T1) + length (s .B1)) (s .c + 1)) (leb (inAll s) (2 * s .c + 1)) (r .1) in
-           record { obeys = record { sound = sound-yes s (t .0); rows = leb-true _ _ (u .0); all = leb-true _ _ (u .1) }; ranged = ranged-yes s (r .0) },
-      λ w. yes-and (soundTest s) _ (yes-sound s (w .obeys .sound)) (yes-and (rangedTest s) _ (yes-ranged s (w .ranged))
-             (yes-and _ _ (le-leb (length (s .T1) + length (s .B1)) (s .c + 1) (w .obeys .rows)) (le-leb (inAll s) (2 * s .c + 1) (w .obeys .all)))) )
+arc-test s = (
+  λ h. let t = and-yes (soundTest s) _ h in
+      let r = and-yes (rangedTest s) _ (t .1) in
+      let u = and-yes (leb (length (s .T1) + length (s .B1)) (s .c + 1)) (leb (inAll s) (2 * s .c + 1)) (r .1) in
+      record { obeys = record { sound = sound-yes s (t .0); rows = leb-true _ _ (u .0); all = leb-true _ _ (u .1) }; ranged = ranged-yes s (r .0) },
+  λ w. yes-and (soundTest s) _ (yes-sound s (w .obeys .sound)) (yes-and (rangedTest s) _ (yes-ranged s (w .ranged))
+      (yes-and _ _ (le-leb (length (s .T1) + length (s .B1)) (s .c + 1) (w .obeys .rows)) (le-leb (inAll s) (2 * s .c + 1) (w .obeys .all)))),
+)
 
 pub car-test : (s : Car) → (carTest s ≡ true) ↔ Car.WellFormed s
 unfolding carTest
@@ -182,11 +188,12 @@ car-test s =
     let a = slots (s .lists .T1) in
     let b = slots (s .lists .T2) in
     let l = a ++ b ++ s .free in
-    let all : (k : ℕ) → times k l ≡ taken k (s .lists) + times k (s .free) = λ k. omega (arith, times-append k (a ++ b) (s .free), times-append k a b) in
-    ( λ h. let t = and-yes (soundTest (s .lists)) _ h in
-           let r = and-yes (rangedTest (s .lists)) _ (t .1) in
-           let u = and-yes (below c l) (onceEach c l) (r .1) in
-           record { obeys = record { sound = sound-yes (s .lists) (t .0); slotted = λ k. sym (all k) ∙ slots-yes c l (u .0) (u .1) k }; ranged = ranged-yes (s .lists) (r .0) },
+    let all : (k : ℕ) → times k l ≡ taken k (s .lists) + times k (s .free) = λ k. omega (arith, times-append k (a ++ b) (s .free), times-append k a b) in (
+      λ h. let t = and-yes (soundTest (s .lists)) _ h in
+          let r = and-yes (rangedTest (s .lists)) _ (t .1) in
+          let u = and-yes (below c l) (onceEach c l) (r .1) in
+          record { obeys = record { sound = sound-yes (s .lists) (t .0); slotted = λ k. sym (all k) ∙ slots-yes c l (u .0) (u .1) k }; ranged = ranged-yes (s .lists) (r .0) },
       λ w. yes-and (soundTest (s .lists)) _ (yes-sound (s .lists) (w .obeys .sound)) (yes-and (rangedTest (s .lists)) _ (yes-ranged (s .lists) (w .ranged))
-             (yes-and _ _ (yes-below c l (λ k g. all k ∙ (w .obeys .slotted k ∙ ap one (le-ltb k c g))))
-               (yes-each c l (λ k g. all k ∙ (w .obeys .slotted k ∙ ap one (lt-ltb k c g)))))) )
+          (yes-and _ _ (yes-below c l (λ k g. all k ∙ (w .obeys .slotted k ∙ ap one (le-ltb k c g))))
+          (yes-each c l (λ k g. all k ∙ (w .obeys .slotted k ∙ ap one (lt-ltb k c g)))))),
+    )

@@ -37,7 +37,8 @@ front-obeys e s h w =
     record {
       sound = entered x second (e ∷ t .T2) t (cons-plus e (t .T2)) (omega arith) (l .0);
       rows = omega (arith, leaves-rows x s, w .rows);
-      all = omega (arith, w .all) }
+      all = omega (arith, w .all);
+    }
 
 got-obeys : (o : Option Resident) (x : ℕ) (s : Arc) → resident x s ≡ o → Obeys s → Obeys (got o s .state)
 unfolding got
@@ -76,20 +77,24 @@ trim-fit true b x s ha hb k r w =
     record {
       fit = record {
         sound = set-sound first (dropLast (s .B1)) s (w .sound) (omega (arith, w .sound .ghosts1)) (λ y. omega (arith, times-dropLast y (s .B1), w .sound .distinct y));
-        absent = omega (arith, times-dropLast x (s .B1), r .absent) };
+        absent = omega (arith, times-dropLast x (s .B1), r .absent);
+      };
       rows = omega (arith, w .rows);
       all = omega (arith, w .all, leb-true, w .sound .ghosts2);
-      some-room = k }
+      some-room = k;
+    }
 trim-fit false true x s ha hb k r w =
     let l = length-dropLast (s .B2) in
     let room = w .sound .room in
     record {
       fit = record {
         sound = set-sound second (dropLast (s .B2)) s (w .sound) (omega (arith, w .sound .ghosts2)) (λ y. omega (arith, times-dropLast y (s .B2), w .sound .distinct y));
-        absent = omega (arith, times-dropLast x (s .B2), r .absent) };
+        absent = omega (arith, times-dropLast x (s .B2), r .absent);
+      };
       rows = omega (arith, leb-false);
       all = omega (arith, w .all, leb-true);
-      some-room = k }
+      some-room = k;
+    }
 trim-fit false false x s ha hb k r w = record { fit = r; rows = omega (arith, leb-false); all = omega (arith, leb-false); some-room = k }
 
 -- after the replacement there is a free frame
@@ -112,8 +117,10 @@ put-made i x (some e) j s h k f =
         fit = record { sound = p .sound (f .fit .sound); absent = omega (arith, p .fewer x, f .fit .absent) };
         rows = omega (arith, rows-less j (dropLast (list j s)) (e .page) s (last-plus (list j s) e h), f .rows);
         all = omega (arith, p .smaller, f .all);
-        some-room = f .some-room };
-      space = omega (arith, p .less, f .fit .sound .room) }
+        some-room = f .some-room;
+      };
+      space = omega (arith, p .less, f .fit .sound .room);
+    }
 
 replace-made : (b : Bool) (i : Side) (x : ℕ) (hit : Bool) (s : Arc) → full s ≡ b → Fit i x s → Made i x (replaceIf b (replace hit) s)
 unfolding replace
@@ -145,7 +152,8 @@ admit-obeys i x f r m =
     record {
       sound = entered x i (e ∷ list i s) s n (m .space) (m .made .fit);
       rows = omega (arith, pushed-rows i e s, m .made .rows);
-      all = omega (arith, residents-set i (e ∷ list i s) s, m .made .all) }
+      all = omega (arith, residents-set i (e ∷ list i s) s, m .made .all);
+    }
 
 insert-obeys : (z : Bool) (o : Option Resident) (x f : ℕ) (s : Arc) → eqb (s .c) 0 ≡ z → resident x s ≡ o → Obeys s → Obeys (inserted z o x f s .state)
 unfolding inserted insertAt

@@ -29,7 +29,7 @@ slots-left s w =
     let a = slots (s .lists .T1) in
     let b = slots (s .lists .T2) in
     let n = each-once (s .lists .c) ((a ++ b) ++ s .free)
-              (λ k. omega (arith, times-append k (a ++ b) (s .free), times-append k a b, w .slotted k)) in
+    (λ k. omega (arith, times-append k (a ++ b) (s .free), times-append k a b, w .slotted k)) in
     omega (arith, length-append (a ++ b) (s .free), length-append a b, length-slots (s .lists .T1), length-slots (s .lists .T2))
 
 -- ---- hits: nothing moves
@@ -37,8 +37,9 @@ touch-obeys : (x : ℕ) (g : Resident → Resident) (s : Car) → ((e : Resident
     → Obeys s → Obeys (touched x g s)
 unfolding touched
 touch-obeys x g s p q w = record {
-      sound = changed-sound x g (s .lists) p (w .sound);
-      slotted = λ k. omega (arith, w .slotted k, ap (times k) (changed-keys slotOf x g (s .lists .T1) q), ap (times k) (changed-keys slotOf x g (s .lists .T2) q)) }
+  sound = changed-sound x g (s .lists) p (w .sound);
+  slotted = λ k. omega (arith, w .slotted k, ap (times k) (changed-keys slotOf x g (s .lists .T1) q), ap (times k) (changed-keys slotOf x g (s .lists .T2) q));
+}
 
 got-obeys : (o : Option Resident) (s : Car) → Obeys s → Obeys (got o s .state)
 unfolding got
@@ -55,8 +56,15 @@ removed-obeys (some e) x s h w =
     let once : times p (pages (l .T1 ++ l .T2)) ≤ 1 = omega (arith, times-pages-append p (l .T1) (l .T2), w .sound .distinct p) in
     record {
       sound = left p l (is-resident l x e h) (w .sound) .0 .sound;
-      slotted = λ k. omega (arith, w .slotted k, key-leaves slotOf k p (l .T1 ++ l .T2) e there once, times-keys-append slotOf k (l .T1) (l .T2),
-                  ap (λ t. times k (slots t)) (without-append p (l .T1) (l .T2)), times-keys-append slotOf k (without p (l .T1)) (without p (l .T2))) }
+      slotted = λ k. omega (
+        arith,
+        w .slotted k,
+        key-leaves slotOf k p (l .T1 ++ l .T2) e there once,
+        times-keys-append slotOf k (l .T1) (l .T2),
+        ap (λ t. times k (slots t)) (without-append p (l .T1) (l .T2)),
+        times-keys-append slotOf k (without p (l .T1)) (without p (l .T2)),
+      );
+    }
 
 -- ---- insert of a page that is no resident
 record Made (x : ℕ) (s : Car) : Type 0 where
@@ -92,7 +100,8 @@ admit-obeys i x f s m =
     let p = m .space in
     record {
       sound = entered x i (list i l ++ e ∷ []) l (snoc-plus (list i l) e) (m .space) (record { sound = m .made .sound; absent = m .absent });
-      slotted = λ k. omega (arith, m .made .slotted k, top-free k (s .free) (omega arith), taken-set k i (list i l ++ e ∷ []) l, times-keys-append slotOf k (list i l) (e ∷ [])) }
+      slotted = λ k. omega (arith, m .made .slotted k, top-free k (s .free) (omega arith), taken-set k i (list i l ++ e ∷ []) l, times-keys-append slotOf k (list i l) (e ∷ []));
+    }
 
 insert-obeys : (z : Bool) (o : Option Resident) (x f : ℕ) (s : Car) → eqb (s .lists .c) 0 ≡ z → resident x (s .lists) ≡ o → Obeys s → Obeys (inserted z o x f s .state)
 unfolding inserted insertAt

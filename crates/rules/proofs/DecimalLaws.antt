@@ -68,7 +68,8 @@ by-right false n higher h k =
     record {
       digits = each-append IsDigit l _ (d .digits) (omega arith, tt);
       shortest = shortest-more l _ (d .shortest) (omega arith);
-      value = value-more 0 l (digit (n % 10)) ∙ omega arith }
+      value = value-more 0 l (digit (n % 10)) ∙ omega arith;
+    }
 
 digits-right : (k n : ℕ) → n < k → Decimal n (digits k n)
 unfolding digits

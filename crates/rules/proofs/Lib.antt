@@ -13,3 +13,5 @@ pub mod Ranges
 pub mod Closure
 pub mod CheckLaws
 pub mod DecimalLaws
+pub mod Shape
+pub mod ListingLaws

@@ -46,11 +46,21 @@ module _ {X : Type 0} where
 
   leaves-ranged : (x : ℕ) (s : Lists X) → Ranged s → Ranged (leaves x s)
   leaves-ranged x s r = record {
-      capacity = r .capacity; recent = each-without Fits x (s .T1) (r .recent); frequent = each-without Fits x (s .T2) (r .frequent); ghosts1 = r .ghosts1; ghosts2 = r .ghosts2 }
+    capacity = r .capacity;
+    recent = each-without Fits x (s .T1) (r .recent);
+    frequent = each-without Fits x (s .T2) (r .frequent);
+    ghosts1 = r .ghosts1;
+    ghosts2 = r .ghosts2;
+  }
 
   changed-ranged : (x : ℕ) (g : Entry X → Entry X) (s : Lists X) → ((e : Entry X) → Fits e → Fits (g e)) → Ranged s → Ranged (changedIn x g s)
   changed-ranged x g s k r = record {
-      capacity = r .capacity; recent = each-changed Fits x g (s .T1) k (r .recent); frequent = each-changed Fits x g (s .T2) k (r .frequent); ghosts1 = r .ghosts1; ghosts2 = r .ghosts2 }
+    capacity = r .capacity;
+    recent = each-changed Fits x g (s .T1) k (r .recent);
+    frequent = each-changed Fits x g (s .T2) k (r .frequent);
+    ghosts1 = r .ghosts1;
+    ghosts2 = r .ghosts2;
+  }
 
   record-ranged : (p : Place) (x : ℕ) (s : Lists X) → IsPage x → Ranged s → Ranged (recordIn p x s)
   record-ranged (ghost i) x s h r = ghosts-ranged i _ s (each-take IsPage (s .c) (x ∷ ghosts i s) (h, ghosts-fit i s r)) r

@@ -26,8 +26,13 @@ module _ {S : Type 0} where
       let d = does (callOf op) s in
       let a = h (used - 1) (d .state) in
       record {
-        done = ap suc (a .done); refusal = a .refusal; offset = a .offset; answers = ap (λ l. d .answer ∷ l) (a .answers); state = a .state;
-        counts = ap (plus (counted (d .answer))) (a .counts) }
+        done = ap suc (a .done);
+        refusal = a .refusal;
+        offset = a .offset;
+        answers = ap (λ l. d .answer ∷ l) (a .answers);
+        state = a .state;
+        counts = ap (plus (counted (d .answer))) (a .counts);
+      }
   at-agrees does o (refused number place) f g s h = record { done = refl; refusal = refl; offset = refl; answers = refl; state = refl; counts = refl }
 
   -- from any place, of which k bytes belong to an operation that was read

@@ -45,8 +45,8 @@ each-once (suc c) l h =
     let n = length-leave c l in
     let t : times c l ≡ 1 = h c ∙ ap one (lt-ltb c (suc c) (omega arith)) in
     let r = each-once c (leave c l) (either (λ k. times k (leave c l) ≡ one (ltb k c)) c
-              (times-leave-self c l ∙ sym (ap one (le-ltb c c (omega arith))))
-              (λ k e. times-leave-other k c l e ∙ (h k ∙ ap one (ltb-skip k c e)))) in
+    (times-leave-self c l ∙ sym (ap one (le-ltb c c (omega arith))))
+    (λ k e. times-leave-other k c l e ∙ (h k ∙ ap one (ltb-skip k c e)))) in
     omega arith
 
 -- ---- slots and marks of lists

@@ -100,13 +100,19 @@ module _ {X : Type 0} where
       let b = length-without x (s .T2) in
       let d = w .distinct x in
       let r = w .room in
-      let gone : seen x (leaves x s) ≡ 0 = omega (arith, without-self x (s .T1), without-self x (s .T2)) in
-      ( record {
+      let gone : seen x (leaves x s) ≡ 0 = omega (arith, without-self x (s .T1), without-self x (s .T2)) in (
+        record {
           sound = record {
             distinct = either (λ y. seen y (leaves x s) ≤ 1) x (omega arith) (λ y n. omega (arith, without-other y x (s .T1) n, without-other y x (s .T2) n, w .distinct y));
-            room = omega arith; ghosts1 = w .ghosts1; ghosts2 = w .ghosts2; aim = w .aim };
-          absent = gone },
-        omega arith )
+            room = omega arith;
+            ghosts1 = w .ghosts1;
+            ghosts2 = w .ghosts2;
+            aim = w .aim;
+          };
+          absent = gone;
+        },
+        omega arith,
+      )
 
   -- a page that stands nowhere enters a list, where there is room
   pub entered : (x : ℕ) (i : Side) (m : List (Entry X)) (s : Lists X) → Plus x (list i s) m → residents s < s .c → Ready x s → Sound (setList i m s)
@@ -115,9 +121,13 @@ module _ {X : Type 0} where
       let n = residents-set i m s in
       record {
         distinct = either (λ y. seen y (setList i m s) ≤ 1) x
-          (omega (arith, seen-set x i m s, p .more x, one-self x, r .absent))
-          (λ y n. omega (arith, seen-set y i m s, p .more y, one-other y x n, w .distinct y));
-        room = omega (arith, p .longer); ghosts1 = w .ghosts1; ghosts2 = w .ghosts2; aim = w .aim }
+            (omega (arith, seen-set x i m s, p .more x, one-self x, r .absent))
+            (λ y n. omega (arith, seen-set y i m s, p .more y, one-other y x n, w .distinct y));
+        room = omega (arith, p .longer);
+        ghosts1 = w .ghosts1;
+        ghosts2 = w .ghosts2;
+        aim = w .aim;
+      }
 
   -- a resident is put out and recorded: no page stands more often, and there is one resident less
   pub record Freed (s t : Lists X) : Type 0 where
@@ -135,7 +145,12 @@ module _ {X : Type 0} where
         smaller = omega (arith, h .longer);
         sound = λ w. record {
           distinct = λ y. omega (arith, seen-set y i rest s, h .more y, w .distinct y);
-          room = omega (arith, h .longer, w .room); ghosts1 = w .ghosts1; ghosts2 = w .ghosts2; aim = w .aim } }
+          room = omega (arith, h .longer, w .room);
+          ghosts1 = w .ghosts1;
+          ghosts2 = w .ghosts2;
+          aim = w .aim;
+        };
+      }
 
   pub put-out : (i : Side) (p : ℕ) (rest : List (Entry X)) (s : Lists X) → Plus p rest (list i s) → Freed s (recordIn (recordPlace i) p (setList i rest s))
   put-out i p rest s h =
@@ -144,12 +159,13 @@ module _ {X : Type 0} where
       let b = recorded (s .c) p (ghosts i s) in
       let k = length-recorded (s .c) p (ghosts i s) in
       let few : (y : ℕ) → seen y (recordIn (recordPlace i) p t) ≤ seen y s
-           = λ y. omega (arith, seen-ghosts y i b t, seen-set y i rest s, h .more y, times-take y (s .c) (p ∷ ghosts i s)) in
+      = λ y. omega (arith, seen-ghosts y i b t, seen-set y i rest s, h .more y, times-take y (s .c) (p ∷ ghosts i s)) in
       record {
         fewer = few;
         less = f .less;
         smaller = omega (arith, all-ghosts i b t, f .less);
-        sound = λ w. set-sound i b t (f .sound w) (k .0) (λ y. omega (arith, few y, w .distinct y)) }
+        sound = λ w. set-sound i b t (f .sound w) (k .0) (λ y. omega (arith, few y, w .distinct y));
+      }
 
   ghosts-le : (i : Side) (s : Lists X) → Sound s → length (ghosts i s) ≤ s .c
   ghosts-le first s w = w .ghosts1
@@ -174,12 +190,14 @@ module _ {X : Type 0} where
       let d = w .distinct x in
       let gone : seen x (setGhosts i b s) ≡ 0 = omega (arith, seen-ghosts x i b s, times-leave-self x (ghosts i s)) in
       let t = set-sound i b s w (omega (arith, ghosts-le i s w))
-            (either (λ y. seen y (setGhosts i b s) ≤ 1) x (omega arith) (λ y e. omega (arith, seen-ghosts y i b s, times-leave-other y x (ghosts i s) e, w .distinct y))) in
-      let once : times x (ghosts i s) ≤ 1 = omega (arith, seen-ghosts x i b s, times-leave-self x (ghosts i s)) in
-      ( record {
+      (either (λ y. seen y (setGhosts i b s) ≤ 1) x (omega arith) (λ y e. omega (arith, seen-ghosts y i b s, times-leave-other y x (ghosts i s) e, w .distinct y))) in
+      let once : times x (ghosts i s) ≤ 1 = omega (arith, seen-ghosts x i b s, times-leave-self x (ghosts i s)) in (
+        record {
           sound = record { distinct = t .distinct; room = t .room; ghosts1 = t .ghosts1; ghosts2 = t .ghosts2; aim = aimed-le i s w };
-          absent = gone },
-        omega arith )
+          absent = gone;
+        },
+        omega arith,
+      )
 
   pub ready-none : (x : ℕ) (s : Lists X) → placeOf x s ≡ nowhere → resident x s ≡ none → Sound s → Ready x s
   ready-none x s at miss w =
@@ -193,4 +211,8 @@ module _ {X : Type 0} where
   changed-sound x g s p w =
       record {
         distinct = λ y. omega (arith, w .distinct y, ap (times y) (changed-keys (λ e. e .page) x g (s .T1) p), ap (times y) (changed-keys (λ e. e .page) x g (s .T2) p));
-        room = omega (arith, w .room, changed-length x g (s .T1), changed-length x g (s .T2)); ghosts1 = w .ghosts1; ghosts2 = w .ghosts2; aim = w .aim }
+        room = omega (arith, w .room, changed-length x g (s .T1), changed-length x g (s .T2));
+        ghosts1 = w .ghosts1;
+        ghosts2 = w .ghosts2;
+        aim = w .aim;
+      }

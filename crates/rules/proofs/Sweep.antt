@@ -50,14 +50,16 @@ pass-law i e rest s h b =
       same-held = λ y. omega (arith, held-set y i rest l, held-set y second m u, snoc-plus (list second u) d .more y, ap (λ t. times y (pages t)) h);
       same-taken = λ k. omega (arith, taken-set k i rest l, taken-set k second m u, times-keys-append slotOf k (list second u) (d ∷ []), ap (λ t. times k (slots t)) h);
       same-residents = omega (arith, residents-set i rest l, residents-set second m u, length-append (list second u) (d ∷ []), ap length h);
-      one-mark = omega (arith, referenced-set i rest l, referenced-set second m u, marks-append (list second u) (d ∷ []), ap marks h, ap one b) }
+      one-mark = omega (arith, referenced-set i rest l, referenced-set second m u, marks-append (list second u) (d ∷ []), ap marks h, ap one b);
+    }
 
 pass-obeys : (i : Side) (e : Resident) (rest : List Resident) (s : Car) → Passed (s .lists) (passed i e rest s .lists) → Obeys s → Obeys (passed i e rest s)
 pass-obeys i e rest s p w =
     let v = w .sound in
     record {
       sound = record { distinct = λ y. omega (arith, p .same-seen y, v .distinct y); room = omega (arith, p .same-residents, v .room); ghosts1 = v .ghosts1; ghosts2 = v .ghosts2; aim = v .aim };
-      slotted = λ k. omega (arith, p .same-taken k, w .slotted k) }
+      slotted = λ k. omega (arith, p .same-taken k, w .slotted k);
+    }
 
 -- ---- what a replacement r of a state s does
 pub record Swept (s : Car) (r : Replaced Car) : Type 0 where
@@ -77,9 +79,13 @@ evict-swept i e rest s h b =
     let p = put-out i (e .page) rest l (subst (λ t. Plus (e .page) rest t) (sym h) (cons-plus e rest)) in
     record {
       obeys = λ w. record { sound = p .sound (w .sound); slotted = λ k. omega (arith, w .slotted k, taken-set k i rest l, ap (λ t. times k (slots t)) h) };
-      fewer = p .fewer; less = p .less; capacity = refl; single = refl;
+      fewer = p .fewer;
+      less = p .less;
+      capacity = refl;
+      single = refl;
       others = λ y. omega (arith, held-set y i rest l, ap (λ t. times y (pages t)) h);
-      paid = omega (arith, referenced-set i rest l, ap marks h) }
+      paid = omega (arith, referenced-set i rest l, ap marks h);
+    }
 
 pass-swept : (i : Side) (e : Resident) (rest : List Resident) (s : Car) (r : Replaced Car) → Passed (s .lists) (passed i e rest s .lists) → Swept (passed i e rest s) r → Swept s (stepThen i r)
 pass-swept i e rest s r p q =
@@ -87,9 +93,11 @@ pass-swept i e rest s r p q =
       obeys = λ w. q .obeys (pass-obeys i e rest s p w);
       fewer = λ y. omega (arith, q .fewer y, p .same-seen y);
       less = omega (arith, q .less, p .same-residents);
-      capacity = q .capacity; single = q .single;
+      capacity = q .capacity;
+      single = q .single;
       others = λ y. omega (arith, q .others y, p .same-held y);
-      paid = omega (arith, q .paid, p .one-mark) }
+      paid = omega (arith, q .paid, p .one-mark);
+    }
 
 pub none-marked : (i : Side) (e : Resident) (rest : List Resident) (s : Lists Clocked) → list i s ≡ e ∷ rest → referenced s ≡ 0 → one (e .more .bit) ≡ 0
 none-marked first e rest s h r = omega (arith, ap marks h)
