@@ -121,7 +121,7 @@ p8 = 0x00 ∷ 0x02 ∷ 0x01 ∷ 0x02 ∷ 0x01 ∷ 0x01 ∷ []
 
 -- ---- the table
 unfoldable pub table : List Row
-unfolding run Arc.does Arc.new Car.does Car.new Car.listing program readFrom operationOf trace.readFrom decimal made called listed batched runFrom
+unfolding program run Arc.does Arc.new Car.does Car.new Car.listing readFrom trace.readFrom decimal made called listed batched
 table =
     -- P1. Bytes 01 02 02 05 0A .. give exactly these lines
     printed (0x01 ∷ p1) p1-lines ∷

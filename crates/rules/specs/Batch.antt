@@ -3,6 +3,7 @@ use Prim.Native.Nat.{ℕ, zero, suc, _+_, _-_}
 use mathlib.Core.List.{List, [], _∷_}
 use mathlib.Core.Bool.{cond}
 use lib.Dec.{eqb}
+use Rattle.numbers.specs.Reading.{readFrom}
 use Rattle.trace.specs.declared.Operation.{Operation}
 use Rattle.trace.specs.declared.Operation.the-variants.{Get as GetOp, Insert as InsertOp, Remove as RemoveOp, Clear as ClearOp, Peek as PeekOp}
 use Rattle.trace.specs.Reading.{Parsed, whole, refused, operationOf}
@@ -44,7 +45,7 @@ module _ {S : Type 0} where
 
   -- the bytes from the offset o on, of which the first k belong to an operation that was run
   unfoldable pub runFrom : (Call → S → Done S) → ℕ → ℕ → List ℕ → S → Batched S
-  unfolding runAt
+  unfolding runAt operationOf readFrom
   runFrom does o k [] s = stopped 0 o s
   runFrom does o (suc k) (b ∷ bs) s = runFrom does (o + 1) k bs s
   runFrom does o zero (b ∷ bs) s = runAt does o (operationOf b bs) (λ k t. runFrom does (o + 1) k bs t) s

@@ -11,11 +11,11 @@ use lib.Dec.{ltb, eqb}
 use lib.ListN.{drop}
 use Rattle.numbers.specs.declared.Frame.{Frame}
 use Rattle.numbers.specs.declared.Frame.the-variants.{Value as FrameValue, Faulty as FrameFaulty}
-use Rattle.numbers.specs.Reading.{frameOf}
+use Rattle.numbers.specs.Reading.{readFrom, frameOf}
 use Rattle.trace.specs.Reading.{faultNumber, faultPlace}
 use Rattle.rules.specs.State.{Side, first, second}
 use Rattle.rules.specs.Calls.{Place, ghost, nowhere, Victim, nobody, out, Answer, Hit, Miss, New, Old, None, Gone, Absent, Cleared, See, No, Holds, Number, Made, Finished, Stopped, Refused}
-use Rattle.rules.specs.Batch.{Batched, batch, answerOf}
+use Rattle.rules.specs.Batch.{Batched, runFrom, batch, answerOf}
 use Rattle.rules.specs.Decimal.{decimal}
 use Rattle.rules.specs.Arc
 use Rattle.rules.specs.Car
@@ -42,6 +42,7 @@ victimText (out k f p) = bytes " out " ++ decimal k ++ bytes " " ++ decimal f ++
 -- "`hit F`, `miss`, `new`, `new out K F b1` (or `b2`), `old F`, `none`, `gone F`, `absent`, `clear`, `see F`, `no` (peek); last `end N`, N the
 -- operations done, or `stop R at O`". Answers that no operation gives have no line.
 unfoldable pub textOf : Answer → List ℕ
+unfolding decimal
 textOf (Hit f) = line (bytes "hit " ++ decimal f)
 textOf Miss = line (bytes "miss")
 textOf (New v n) = line (bytes "new" ++ victimText v)
@@ -84,7 +85,7 @@ maxReplayed = 256
 
 -- the operations, on a fresh cache; the first has the offset o ("O counted from byte 0 of the input")
 unfoldable pub replay : Kind → ℕ → ℕ → List ℕ → List ℕ
-unfolding told
+unfolding told runFrom Arc.does Arc.new Car.does Car.new
 replay arc c o ops = told (batch Arc.does o ops (Arc.new c))
 replay car c o ops = told (batch Car.does o ops (Car.new c))
 
@@ -101,7 +102,7 @@ withCapacity k (FrameFaulty f) bs = textOf (Stopped (faultNumber f) (1 + faultPl
 
 -- "4 OPERATION .. program: kind byte not 1 or 2"
 unfoldable pub withKind : Option Kind → List ℕ → List ℕ
-unfolding withCapacity textOf
+unfolding withCapacity textOf readFrom
 withKind none bs = textOf (Stopped 4 0)
 withKind (some k) bs = withCapacity k (frameOf bs) bs
 

@@ -10,7 +10,7 @@ use lib.ListN.{length, drop}
 use Rattle.rules.specs.State.{maxCapacity}
 use Rattle.rules.specs.Calls.{Call, Ask, Listing, Record, Answer, Made, Refused, Done, done}
 use Rattle.rules.specs.Counts.{Counts}
-use Rattle.rules.specs.Batch.{Batched, batch, answerOf}
+use Rattle.rules.specs.Batch.{Batched, runFrom, batch, answerOf}
 
 -- "`new` needs 24c + 64 words"
 abbrev pub wordsNeeded : ℕ → ℕ
@@ -55,6 +55,7 @@ module _ {S : Type 0} where
 
   -- 3 leaves the counts as they were
   unfoldable pub batched : (Call → S → Done S) → List ℕ → Counts → Option S → BatchDone S
+  unfolding runFrom
   batched does bs lent none = record { answer = Refused 3; area = none; counts = lent }
   batched does bs lent (some s) =
       let b = batch does 0 bs s in
