@@ -294,6 +294,17 @@ def operations(data, at=0):
     yield ('end',), at
 
 
+def check(data):
+    """The operations that read whole, the refusal's number (0 for none) and its offset (the length for none)."""
+    done = 0
+    for op, offset in operations(data):
+        if op[0] == 'end':
+            return done, 0, offset
+        if op[0] == 'stop':
+            return done, op[1], offset
+        done += 1
+
+
 def program(data):
     """The replay program's lines."""
     if not data:

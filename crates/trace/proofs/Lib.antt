@@ -1,0 +1,5 @@
+pub mod Laws
+pub mod Arms
+pub mod Turns
+pub mod Checks
+pub mod Examples

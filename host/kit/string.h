@@ -1,0 +1,6 @@
+#ifndef KIT_STRING_H
+#define KIT_STRING_H
+#include <stddef.h>
+int strcmp(const char *a, const char *b);
+char *strerror(int number);
+#endif
