@@ -1,0 +1,55 @@
+// One area of words, cut into a header and four parts (docs/LAYOUT.md). Each call here lends one part to the crate that it belongs
+// to, and says what becomes of the parts together. Nothing past the 24c + 64 words that a capacity needs is touched.
+//
+//     | kind | capacity | target | .. 43 | residents | B1 | B2 | lookup |
+//
+// A side is 0 for T1 and B1, 1 for T2 and B2; list 2 of the residents is the free slots.
+pub mod ghost_parts;
+pub mod lookup_part;
+pub mod resident_part;
+ghost use mathlib.Core.Path.{_≡_};
+ghost use Prim.Native.Nat.{_+_, _*_, _<_, _≤_};
+ghost use lib.ListN.{length};
+ghost use Rattle.parts.specs.Parts.{setTarget};
+ghost use Rattle.area.specs.Area.{kindOf, capacityOf, targetOf, sideOf, Starts, partsOf, Fit, Became};
+
+// The kind, the capacity and the target, as the header has them.
+pub fn kind(area: &[u64]) -> u64
+    requires { ⌜ 64 ≤ length (now area) ⌝ }
+    ensures { λ r. ⌜ r ≡ kindOf (now (area .entry)) ⌝ }
+{
+    area[0]
+}
+
+pub fn capacity(area: &[u64]) -> u64
+    requires { ⌜ 64 ≤ length (now area) ⌝ }
+    ensures { λ r. ⌜ r ≡ capacityOf (now (area .entry)) ⌝ }
+{
+    area[1]
+}
+
+pub fn target(area: &[u64]) -> u64
+    requires { ⌜ 64 ≤ length (now area) ⌝ }
+    ensures { λ r. ⌜ r ≡ targetOf (now (area .entry)) ⌝ }
+{
+    area[2]
+}
+
+// The target is now t.
+pub fn set_target(area: &mut [u64], c: usize, t: u64)
+    requires { ⌜ Fit c (now area) (t ≤ c) ⌝ }
+    ensures { λ _. ⌜ Became c (now (area .entry)) (now (area .exit)) (setTarget t (partsOf c (now (area .entry)))) ⌝ }
+{
+    area[2] = t;
+}
+
+// Where the ghost list of a side starts.
+pub fn ghosts_at(c: usize, i: usize) -> usize
+    requires { ⌜ (c ≤ 1024) × (i < 2) ⌝ }
+    ensures { λ r. ⌜ Starts c (sideOf i) r ⌝ }
+{
+    if i == 0 {
+        return 5 * c + 52;
+    }
+    7 * c + 57
+}

@@ -1,0 +1,77 @@
+// The lookup's part of an area.
+ghost use mathlib.Core.Path.{_≡_};
+ghost use Prim.Native.Nat.{_+_, _*_, _<_, _≤_};
+ghost use lib.ListN.{length};
+ghost use Rattle.lookup.specs.Buckets.{bucketsOf, placesOf};
+ghost use Rattle.lookup.specs.Part.{pageOf};
+ghost use Rattle.lookup.specs.Lookup.{findOf, look, placeOr, CanFind};
+ghost use Rattle.lookup.specs.Changes.{putIn, taken, renamed, CanPut, CanTake, CanRename};
+ghost use Rattle.parts.specs.Parts.{setLookup};
+ghost use Rattle.area.specs.Area.{lookupIn, partsOf, Fit, Became};
+
+// Where the page x is, or before which it belongs.
+pub fn find(area: &[u64], c: usize, x: u64) -> usize
+    requires { ⌜ Fit c (now area) (CanFind (lookupIn c (now area)) (placesOf c) (bucketsOf c) x) ⌝ }
+    ensures { λ r. ⌜ r ≡ findOf (lookupIn c (now (area .entry))) (placesOf c) (bucketsOf c) x ⌝ }
+{
+    let a = 9 * c + 62;
+    let b = 24 * c + 64;
+    let m = 3 * c;
+    let k = lookup::buckets_of(c);
+    lookup::find(&area[a..b], m, k, x)
+}
+
+// The place of the page x, or 3c for none.
+pub fn place_of(area: &[u64], c: usize, x: u64) -> usize
+    requires { ⌜ Fit c (now area) (CanFind (lookupIn c (now area)) (placesOf c) (bucketsOf c) x) ⌝ }
+    ensures { λ r. ⌜ r ≡ placeOr (placesOf c) (look (lookupIn c (now (area .entry))) (placesOf c) (bucketsOf c) x) ⌝ }
+{
+    let a = 9 * c + 62;
+    let b = 24 * c + 64;
+    let m = 3 * c;
+    let k = lookup::buckets_of(c);
+    lookup::place_of(&area[a..b], m, k, x)
+}
+
+// The page of the place y.
+pub fn page(area: &[u64], c: usize, y: usize) -> u64
+    requires { ⌜ Fit c (now area) (y < 3 * c) ⌝ }
+    ensures { λ r. ⌜ r ≡ pageOf (lookupIn c (now (area .entry))) y ⌝ }
+{
+    let a = 9 * c + 62;
+    let b = 24 * c + 64;
+    lookup::page_of(&area[a..b], y)
+}
+
+// The dead place y gets the page x and comes before f, which `find` gave.
+pub fn put(area: &mut [u64], c: usize, f: usize, y: usize, x: u64)
+    requires { ⌜ Fit c (now area) (CanPut (lookupIn c (now area)) (placesOf c) f y) ⌝ }
+    ensures { λ _. ⌜ Became c (now (area .entry)) (now (area .exit)) (setLookup (putIn (placesOf c) f y x (lookupIn c (now (area .entry)))) (partsOf c (now (area .entry)))) ⌝ }
+{
+    let a = 9 * c + 62;
+    let b = 24 * c + 64;
+    let m = 3 * c;
+    lookup::put(&mut area[a..b], m, f, y, x);
+}
+
+// The place y is dead.
+pub fn take(area: &mut [u64], c: usize, y: usize)
+    requires { ⌜ Fit c (now area) (CanTake (lookupIn c (now area)) (placesOf c) y) ⌝ }
+    ensures { λ _. ⌜ Became c (now (area .entry)) (now (area .exit)) (setLookup (taken (placesOf c) y (lookupIn c (now (area .entry)))) (partsOf c (now (area .entry)))) ⌝ }
+{
+    let a = 9 * c + 62;
+    let b = 24 * c + 64;
+    let m = 3 * c;
+    lookup::take(&mut area[a..b], m, y);
+}
+
+// The page of the place y is at the dead place z; y is dead.
+pub fn rename(area: &mut [u64], c: usize, y: usize, z: usize)
+    requires { ⌜ Fit c (now area) (CanRename (lookupIn c (now area)) (placesOf c) y z) ⌝ }
+    ensures { λ _. ⌜ Became c (now (area .entry)) (now (area .exit)) (setLookup (renamed (placesOf c) y z (lookupIn c (now (area .entry)))) (partsOf c (now (area .entry)))) ⌝ }
+{
+    let a = 9 * c + 62;
+    let b = 24 * c + 64;
+    let m = 3 * c;
+    lookup::rename(&mut area[a..b], m, y, z);
+}

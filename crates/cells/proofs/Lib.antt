@@ -1,0 +1,2 @@
+-- The laws of cells. Assumes nothing.
+pub mod Laws

@@ -1,0 +1,2 @@
+-- The definitions that the contracts of `ghosts` cite. Assumes nothing.
+pub mod Ghosts

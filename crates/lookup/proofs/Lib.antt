@@ -1,0 +1,19 @@
+-- The laws of the lookup. For callers: Exactly (what a caller carries, and what each change makes of it), Look and Answers (an answer is a plain
+-- search, before and after each change), Counts (the live places are held, by counting), Table (the reading; places held, dead places; room).
+-- Below them: Putting, Taking, Renaming and Making say what each change asks and does; Rising and Part are about lists and words; Needs and Finding
+-- answer the needs of the code. Assumes nothing.
+pub mod Answers
+pub mod Buckets
+pub mod Cases
+pub mod Counts
+pub mod Exactly
+pub mod Finding
+pub mod Look
+pub mod Making
+pub mod Needs
+pub mod Part
+pub mod Putting
+pub mod Renaming
+pub mod Rising
+pub mod Table
+pub mod Taking

@@ -1,0 +1,186 @@
+// The lookup from pages to places: which place, of m, has a page. It is the only holder of page numbers. Its part is
+//
+//     | page 0 | .. | page m - 1 | next 0 | prev 0 | next 1 | prev 1 | .. |
+//
+// with links of m + k cells: the cells below m are the places, the cells from m on the sentinels of k buckets. A bucket is a ring whose
+// places stand in strictly rising order of their pages. It keeps no count: a walk ends at a cell that is no place. A place
+// in no bucket is dead: it stands before itself.
+//
+// Callers know of `look` (specs/Lookup.antt) and of the laws of proofs/Look.antt: that it is a plain search of the places held. No answer
+// shows a bucket.
+ghost use mathlib.Core.Path.{_≡_};
+ghost use Prim.Native.Nat.{_+_, _*_, _<_, _≤_};
+ghost use lib.ListN.{length};
+ghost use lib.Dec.{eqb};
+ghost use Rattle.cells.specs.Cells.{In, nextOf, prevOf};
+ghost use Rattle.rings.specs.Rings.{CanDetach, CanReplace};
+ghost use Rattle.lookup.specs.Buckets.{bucketOf, bucketsOf};
+ghost use Rattle.lookup.specs.Part.{pageOf, linksOf, Room};
+ghost use Rattle.lookup.specs.Lookup.{findOf, look, placeOr, CanFind};
+ghost use Rattle.lookup.specs.Changes.{unlinked, handedOver, deadened, cleared, blank, putIn, taken, renamed, made, CanPut, CanTake, CanRename, CanReach, CanBlank};
+
+// The bucket of the page p, one of k.
+pub fn bucket_of(k: usize, p: u64) -> usize
+    requires { ⌜ 0 < k ⌝ }
+    ensures { λ r. ⌜ r ≡ bucketOf k p ⌝ }
+{
+    (p as usize) % k
+}
+
+// How many buckets a lookup of capacity c has.
+pub fn buckets_of(c: usize) -> usize
+    requires { ⌜ c ≤ 1024 ⌝ }
+    ensures { λ r. ⌜ r ≡ bucketsOf c ⌝ }
+{
+    3 * c + 1
+}
+
+// The page of the place x.
+pub fn page_of(w: &[u64], x: usize) -> u64
+    requires { ⌜ x < length (now w) ⌝ }
+    ensures { λ r. ⌜ r ≡ pageOf (now (w .entry)) x ⌝ }
+{
+    w[x]
+}
+
+// The cell after e.
+pub fn next_of(w: &[u64], m: usize, e: usize) -> usize
+    requires { ⌜ CanReach (now w) m e ⌝ }
+    ensures { λ r. ⌜ r ≡ nextOf (linksOf m (now (w .entry))) e ⌝ }
+{
+    cells::next(&w[m..], e)
+}
+
+// The cell before e.
+pub fn prev_of(w: &[u64], m: usize, e: usize) -> usize
+    requires { ⌜ CanReach (now w) m e ⌝ }
+    ensures { λ r. ⌜ r ≡ prevOf (linksOf m (now (w .entry))) e ⌝ }
+{
+    cells::prev(&w[m..], e)
+}
+
+// Whether the place x is in no bucket.
+pub fn dead(w: &[u64], m: usize, x: usize) -> bool
+    requires { ⌜ CanReach (now w) m x ⌝ }
+    ensures { λ r. ⌜ r ≡ eqb (prevOf (linksOf m (now (w .entry))) x) x ⌝ }
+{
+    prev_of(w, m, x) == x
+}
+
+// The first place of p's bucket whose page is not below p, or the bucket's sentinel: where p is, or before which it belongs.
+pub fn find(w: &[u64], m: usize, k: usize, p: u64) -> usize
+    requires { ⌜ CanFind (now w) m k p ⌝ }
+    ensures { λ r. ⌜ r ≡ findOf (now (w .entry)) m k p ⌝ }
+{
+    let s = m + bucket_of(k, p);
+    let mut cur = next_of(w, m, s);
+    while cur < m {
+        if w[cur] < p {
+            cur = next_of(w, m, cur);
+        } else {
+            return cur;
+        }
+    }
+    s
+}
+
+// The place that has the page p, or m where none has it.
+pub fn place_of(w: &[u64], m: usize, k: usize, p: u64) -> usize
+    requires { ⌜ CanFind (now w) m k p ⌝ }
+    ensures { λ r. ⌜ r ≡ placeOr m (look (now (w .entry)) m k p) ⌝ }
+{
+    let f = find(w, m, k, p);
+    if m <= f {
+        return m;
+    }
+    if w[f] != p {
+        return m;
+    }
+    f
+}
+
+// The dead place y gets the page p and comes before f, which `find` gave. No bucket is computed.
+pub fn put(w: &mut [u64], m: usize, f: usize, y: usize, p: u64)
+    requires { ⌜ CanPut (now w) m f y ⌝ }
+    ensures { λ _. ⌜ now (w .exit) ≡ putIn m f y p (now (w .entry)) ⌝ }
+{
+    w[y] = p;
+    rings::insert(&mut w[m..], f, y);
+}
+
+// Of the links: e leaves its ring and stands before itself.
+fn unlink(l: &mut [u64], e: usize)
+    requires { ⌜ CanDetach (now l) e ⌝ }
+    ensures { λ _. ⌜ now (l .exit) ≡ unlinked e (now (l .entry)) ⌝ }
+{
+    rings::detach(l, e);
+    cells::set_prev(l, e, e);
+}
+
+// The place x leaves its bucket and is dead.
+pub fn take(w: &mut [u64], m: usize, x: usize)
+    requires { ⌜ CanTake (now w) m x ⌝ }
+    ensures { λ _. ⌜ now (w .exit) ≡ taken m x (now (w .entry)) ⌝ }
+{
+    unlink(&mut w[m..], x);
+}
+
+// Of the links: y takes the place of x in its ring, and x stands before itself.
+fn hand_over(l: &mut [u64], x: usize, y: usize)
+    requires { ⌜ CanReplace (now l) x y ⌝ }
+    ensures { λ _. ⌜ now (l .exit) ≡ handedOver x y (now (l .entry)) ⌝ }
+{
+    rings::replace(l, x, y);
+    cells::set_prev(l, x, x);
+}
+
+// The page of the place x is now at the dead place y, where x stood; x is dead. There is no walk, and no bucket is computed.
+pub fn rename(w: &mut [u64], m: usize, x: usize, y: usize)
+    requires { ⌜ CanRename (now w) m x y ⌝ }
+    ensures { λ _. ⌜ now (w .exit) ≡ renamed m x y (now (w .entry)) ⌝ }
+{
+    w[y] = w[x];
+    hand_over(&mut w[m..], x, y);
+}
+
+// Of the links: every cell below m stands before itself. The cell m, a sentinel, is there.
+fn deaden(l: &mut [u64], m: usize)
+    requires { ⌜ In (now l) m ⌝ }
+    ensures { λ _. ⌜ now (l .exit) ≡ deadened m (now (l .entry)) ⌝ }
+{
+    let mut i = 0;
+    while i < m {
+        cells::set_prev(l, i, i);
+        i = i + 1;
+    }
+}
+
+// Of the links: the rings of the k sentinels from m on have no members.
+fn clear(l: &mut [u64], m: usize, k: usize)
+    requires { ⌜ CanBlank (now l) m k ⌝ }
+    ensures { λ _. ⌜ now (l .exit) ≡ cleared m k (now (l .entry)) ⌝ }
+{
+    let mut i = 0;
+    while i < k {
+        let s = m + i;
+        rings::empty(l, s);
+        i = i + 1;
+    }
+}
+
+// Of the links: every cell below m stands before itself, and the k rings have no members.
+fn wipe(l: &mut [u64], m: usize, k: usize)
+    requires { ⌜ CanBlank (now l) m k ⌝ }
+    ensures { λ _. ⌜ now (l .exit) ≡ blank m k (now (l .entry)) ⌝ }
+{
+    deaden(l, m);
+    clear(l, m, k);
+}
+
+// Every place is dead and every bucket empty, whatever the words were. The pages stay as they are: nothing reads the page of a dead place.
+pub fn make(w: &mut [u64], m: usize, k: usize)
+    requires { ⌜ Room (now w) m k ⌝ }
+    ensures { λ _. ⌜ now (w .exit) ≡ made m k (now (w .entry)) ⌝ }
+{
+    wipe(&mut w[m..], m, k);
+}

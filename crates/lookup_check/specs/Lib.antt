@@ -1,0 +1,2 @@
+-- The definitions that the contracts of `lookup_check` cite. Assumes nothing.
+pub mod Check

@@ -1,0 +1,21 @@
+-- The laws of the parts of an area together. Assumes nothing.
+pub mod Counts
+pub mod Maps
+pub mod Sides
+pub mod HoldsAs
+pub mod Pages
+pub mod Reading
+pub mod Finding
+pub mod Lists
+pub mod Forgetting
+pub mod Slots
+pub mod Setting
+pub mod Moving
+pub mod Leaving
+pub mod Cells
+pub mod Handing
+pub mod Evicting
+pub mod Entering
+pub mod Adding
+pub mod Ends
+pub mod Making

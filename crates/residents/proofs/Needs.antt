@@ -1,0 +1,145 @@
+-- The laws that answer the needs of the changes, in the shape in which the code leaves them: w is the part at entry, v what it is after a call. Assumes nothing.
+use mathlib.Core.Path.{_≡_, refl, sym, ap, _∙_}
+use mathlib.Core.Logic.{_⊎_, inl, inr, ⊎-elim}
+use mathlib.Core.List.{List, [], _∷_}
+use Prim.Native.Nat.{ℕ, suc, _+_, _-_, _*_, _^_, _<_, _≤_}
+use native.Mathlib.Omega.{arith}
+use lib.ListN.{length, getD, set, length-set}
+use lib.Seq.{getD-set-same, getD-set-other}
+use mir.Syntax.{w64}
+use mir.Val.{Fits}
+use borrow.Author.Needs.{needs}
+use Rattle.cells.specs.Cells.{In, nextOf, prevOf}
+use Rattle.cells.proofs.Laws.{in-below, in-length}
+use Rattle.rings.specs.Members.{Mem}
+use Rattle.rings.specs.Rings.{fronted, ended, emptied, filled, CanFront, CanEnd, CanFill}
+use Rattle.rings.specs.Walks.{CanWalk}
+use Rattle.rings.proofs.Members.{same-or-other}
+use Rattle.rings.proofs.Ring.{length-emptied}
+use Rattle.rings.proofs.Moves.{length-fronted, length-ended}
+use Rattle.rings.proofs.Filling.{length-filled}
+use Rattle.rings.proofs.Reading.{first-member}
+use Rattle.tails.specs.Tails.{tailOf, withTail, Tail}
+use Rattle.tails.proofs.Laws.{tail-withTail, withTail-withTail, same-length-withTail}
+use Rattle.residents.specs.Residents.{linksOf, countOf, listOf, Room, Residents, listsOf}
+use Rattle.residents.specs.Changes.{withFrame, withList, withBit, recounted, shifted, shiftedFront, shiftedEnd, CanRecount, CanShift, promoted, sentBack, freed, topOf, addedFront, addedEnd, Added, made, IsResident, CanAdd, HasSlot, HasList}
+use Rattle.residents.proofs.Words as W
+use Rattle.residents.proofs.Words.{Beside}
+use Rattle.residents.proofs.Changes.{slot-below, front-asks, end-asks}
+
+-- the sentinel of list i
+pub sentinel-in : (w : List ℕ) (c i : ℕ) → HasList w c i → In (tailOf (3 + 3 * c) w) (c + i)
+sentinel-in w c i h = let l : i < 3 = h .list in in-below (linksOf c w) (c + 2) (c + i) (h .room .links) (omega arith)
+
+pub asks-list : (w : List ℕ) (c i : ℕ) → HasList w c i → Tail w (3 + 3 * c) (In (tailOf (3 + 3 * c) w) (c + i))
+asks-list w c i h = record { within = h .room .head; can = sentinel-in w c i h }
+
+pub asks-walk : (w : List ℕ) (c i : ℕ) → HasList w c i → Tail w (3 + 3 * c) (CanWalk (tailOf (3 + 3 * c) w) c (c + i))
+asks-walk w c i h = record { within = h .room .head; can = record { high = omega arith; root = sentinel-in w c i h } }
+
+-- a slot stays where a word of a slot is written, and where a slot is shifted
+has-beside : (w v : List ℕ) (c e : ℕ) → HasSlot w c e → Beside w v c → HasSlot v c e
+has-beside w v c e h b =
+    let z : length v ≡ length w = b .size in
+    let l : 3 + 3 * c ≤ length w = h .room .head in
+    record { room = record { small = h .room .small; head = omega arith; links = rw (b .links) (h .room .links) }; slot = h .slot }
+
+pub has-frame : (w v : List ℕ) (c e f : ℕ) → HasSlot w c e → v ≡ withFrame e f w → HasSlot v c e
+has-frame w v c e f h q = rw q (has-beside w (withFrame e f w) c e h (W.beside-frame w c e (h .slot) f))
+
+pub has-list : (w v : List ℕ) (c e i : ℕ) → HasSlot w c e → v ≡ withList c e i w → HasSlot v c e
+has-list w v c e i h q = rw q (has-beside w (withList c e i w) c e h (W.beside-list w c e (h .slot) i))
+
+-- the counts
+module _ (w : List ℕ) (c i j : ℕ) (can : CanRecount w c i j) where
+  pub recount-some : 1 ≤ getD w i 0
+  unfolding countOf
+  recount-some = can .some
+
+  pub recount-within : j < length (set w i (getD w i 0 - 1))
+  recount-within = let z : length (set w i (getD w i 0 - 1)) ≡ length w = length-set w i (getD w i 0 - 1) in let h : 3 + 3 * c ≤ length w = can .room .head in let l : j < 3 = can .to in omega arith
+
+  pub recount-fits : Fits w64 (getD (set w i (getD w i 0 - 1)) j 0 + 1)
+  unfolding countOf
+  recount-fits =
+      let s : c ≤ 1024 = can .room .small in
+      let f : getD w j 0 ≤ c = can .few in
+      let h : 3 + 3 * c ≤ length w = can .room .head in
+      let k : i < 3 = can .from in
+      ⊎-elim (λ q. let a : getD (set w i (getD w i 0 - 1)) j 0 ≡ getD w i 0 - 1 = ap (λ (y : ℕ). getD (set w i (getD w i 0 - 1)) y 0) q ∙ getD-set-same w i (getD w i 0 - 1) 0 (omega arith) in let b : getD w j 0 ≡ getD w i 0 = ap (λ (y : ℕ). getD w y 0) q in record { fits = omega arith }) (λ d. let a : getD (set w i (getD w i 0 - 1)) j 0 ≡ getD w j 0 = getD-set-other w i j (getD w i 0 - 1) 0 d in record { fits = omega arith }) (same-or-other j i)
+
+-- a shift, once the counts are made
+module _ (w v : List ℕ) (c i j e : ℕ) (q : v ≡ recounted i j w) where
+  links : i < 3 → j < 3 → tailOf (3 + 3 * c) v ≡ tailOf (3 + 3 * c) w
+  links hi hj = rw q (W.links-recounted c i j w hi hj)
+
+  within : Room w c → 3 + 3 * c ≤ length v
+  within r = let z : length v ≡ length w = rw q (W.length-recounted i j w) in let h : 3 + 3 * c ≤ length w = r .head in omega arith
+
+  pub asks-front : CanShift w c i j (CanFront (tailOf (3 + 3 * c) w) (c + j) e) → Tail v (3 + 3 * c) (CanFront (tailOf (3 + 3 * c) v) (c + j) e)
+  asks-front h = record { within = within (h .counts .room); can = rw (links (h .counts .from) (h .counts .to)) (h .can) }
+
+  pub asks-end : CanShift w c i j (CanEnd (tailOf (3 + 3 * c) w) (c + j) e) → Tail v (3 + 3 * c) (CanEnd (tailOf (3 + 3 * c) v) (c + j) e)
+  asks-end h = record { within = within (h .counts .room); can = rw (links (h .counts .from) (h .counts .to)) (h .can) }
+
+  pub gives-front : (u : List ℕ) → CanShift w c i j (CanFront (tailOf (3 + 3 * c) w) (c + j) e) → u ≡ withTail (3 + 3 * c) (fronted (c + j) e (tailOf (3 + 3 * c) v)) v → u ≡ shiftedFront c i j e w
+  unfolding shifted
+  gives-front u h p = p ∙ ap (λ (l : List ℕ). withTail (3 + 3 * c) (fronted (c + j) e l) v) (links (h .counts .from) (h .counts .to)) ∙ ap (withTail (3 + 3 * c) (fronted (c + j) e (tailOf (3 + 3 * c) w))) q
+
+  pub gives-end : (u : List ℕ) → CanShift w c i j (CanEnd (tailOf (3 + 3 * c) w) (c + j) e) → u ≡ withTail (3 + 3 * c) (ended (c + j) e (tailOf (3 + 3 * c) v)) v → u ≡ shiftedEnd c i j e w
+  unfolding shifted
+  gives-end u h p = p ∙ ap (λ (l : List ℕ). withTail (3 + 3 * c) (ended (c + j) e l) v) (links (h .counts .from) (h .counts .to)) ∙ ap (withTail (3 + 3 * c) (ended (c + j) e (tailOf (3 + 3 * c) w))) q
+
+-- a slot stays where a slot is shifted
+has-shifted : (w : List ℕ) (c i j e : ℕ) (l : List ℕ) → i < 3 → j < 3 → length l ≡ length (linksOf c w) → HasSlot w c e → HasSlot (shifted c i j l w) c e
+has-shifted w c i j e l hi hj q h =
+    let z : length (shifted c i j l w) ≡ length w = W.length-shifted c i j w hi hj l (h .room .head) q in
+    let k : 3 + 3 * c ≤ length w = h .room .head in
+    record { room = record { small = h .room .small; head = omega arith; links = rw (W.links-shifted c i j w hi hj l (h .room .head)) (in-length (linksOf c w) l (c + 2) q (h .room .links)) }; slot = h .slot }
+
+-- a resident moves
+module _ (w : List ℕ) (c e : ℕ) (h : IsResident w c e) where
+  pub resident-slot : HasSlot w c e
+  resident-slot = let k : listOf w c e < 2 = h .side in record { room = h .residents .room; slot = slot-below w c (listsOf w c) (h .residents) (listOf w c e) e (omega arith) (h .member) }
+
+  module _ (i : ℕ) (q : i ≡ listOf w c e) where
+    pub resident-front : (j : ℕ) → j < 3 → CanShift w c i j (CanFront (tailOf (3 + 3 * c) w) (c + j) e)
+    resident-front j hj = rw q (let k : listOf w c e < 2 = h .side in front-asks w c (listsOf w c) (h .residents) (listOf w c e) e (omega arith) (h .member) j hj)
+
+    pub resident-end : (j : ℕ) → j < 3 → CanShift w c i j (CanEnd (tailOf (3 + 3 * c) w) (c + j) e)
+    resident-end j hj = rw q (let k : listOf w c e < 2 = h .side in end-asks w c (listsOf w c) (h .residents) (listOf w c e) e (omega arith) (h .member) j hj)
+
+    pub after-front : (v : List ℕ) (j : ℕ) → j < 3 → v ≡ shiftedFront c i j e w → HasSlot v c e
+    after-front v j hj p = rw p (let k : listOf w c e < 2 = h .side in has-shifted w c i j e _ (omega arith) hj (length-fronted (c + j) e (linksOf c w)) resident-slot)
+
+    pub after-end : (v : List ℕ) (j : ℕ) → j < 3 → v ≡ shiftedEnd c i j e w → HasSlot v c e
+    after-end v j hj p = rw p (let k : listOf w c e < 2 = h .side in has-shifted w c i j e _ (omega arith) hj (length-ended (c + j) e (linksOf c w)) resident-slot)
+
+    pub after-end-listed : (v u : List ℕ) (j : ℕ) → j < 3 → v ≡ shiftedEnd c i j e w → u ≡ withList c e j v → HasSlot u c e
+    after-end-listed v u j hj p z = has-list v u c e j (after-end v j hj p) z
+
+-- a free slot is taken
+module _ (w : List ℕ) (c j e : ℕ) (h : CanAdd w c j) (q : e ≡ nextOf (tailOf (3 + 3 * c) w) (c + 2)) where
+  isFree : Mem e (listsOf w c 2)
+  isFree = rw q (first-member (linksOf c w) c (c + 2) (listsOf w c 2) (h .residents .rings 2 (omega arith)) (h .room))
+
+  to : j < 3
+  to = let k : j < 2 = h .side in omega arith
+
+  slot : HasSlot w c e
+  slot = record { room = h .residents .room; slot = slot-below w c (listsOf w c) (h .residents) 2 e (omega arith) isFree }
+
+  pub free-front : CanShift w c 2 j (CanFront (tailOf (3 + 3 * c) w) (c + j) e)
+  free-front = front-asks w c (listsOf w c) (h .residents) 2 e (omega arith) isFree j to
+
+  pub free-end : CanShift w c 2 j (CanEnd (tailOf (3 + 3 * c) w) (c + j) e)
+  free-end = end-asks w c (listsOf w c) (h .residents) 2 e (omega arith) isFree j to
+
+  pub taken-front : (v : List ℕ) → v ≡ shiftedFront c 2 j e w → HasSlot v c e
+  taken-front v p = rw p (has-shifted w c 2 j e _ (omega arith) to (length-fronted (c + j) e (linksOf c w)) slot)
+
+  pub taken-end : (v : List ℕ) → v ≡ shiftedEnd c 2 j e w → HasSlot v c e
+  taken-end v p = rw p (has-shifted w c 2 j e _ (omega arith) to (length-ended (c + j) e (linksOf c w)) slot)
+
+pub has-free : (w : List ℕ) (c j : ℕ) → CanAdd w c j → HasList w c 2
+has-free w c j h = record { room = h .residents .room; list = omega arith }

@@ -1,0 +1,44 @@
+-- The test of the residents, for any words. Assumes nothing.
+use mathlib.Core.Path.{_≡_}
+use mathlib.Core.Bool.{Bool, true, false, cond}
+use mathlib.Core.List.{List, [], _∷_}
+use Prim.Native.Nat.{ℕ, _+_, _*_, _^_, _<_, _≤_}
+use lib.ListN.{length}
+use lib.Dec.{eqb, ltb}
+use Rattle.rings.specs.Rings.{Ring}
+use Rattle.rings.specs.Walks.{ringTest}
+use Rattle.residents.specs.Residents.{linksOf, countOf, frameOf, listOf, bitOf, listsOf, Room}
+
+-- no count passes c, and the three together are c
+unfoldable pub countsTest : List ℕ → ℕ → Bool
+countsTest w c =
+    cond (ltb c (countOf w 0)) false
+    (cond (ltb c (countOf w 1)) false
+    (cond (ltb c (countOf w 2)) false
+    (eqb (countOf w 0 + countOf w 1 + countOf w 2) c)))
+
+-- list i is the ring of its sentinel, with as many slots as its count says
+unfoldable pub ringAt : List ℕ → ℕ → ℕ → Bool
+ringAt w c i = ringTest (linksOf c w) c (c + i) (countOf w i)
+
+-- slot e holds a resident of list i; each of these slots does
+unfoldable pub slotTest : List ℕ → ℕ → ℕ → ℕ → Bool
+slotTest w c i e = cond (eqb (listOf w c e) i) (cond (ltb (frameOf w e) (2 ^ 32)) (ltb (bitOf w c e) 2) false) false
+
+abbrev pub slotsTest : List ℕ → ℕ → ℕ → List ℕ → Bool
+slotsTest w c i [] = true
+slotsTest w c i (x ∷ xs) = cond (slotTest w c i x) (slotsTest w c i xs) false
+
+unfoldable pub sideTest : List ℕ → ℕ → ℕ → Bool
+sideTest w c i = cond (ringAt w c i) (slotsTest w c i (listsOf w c i)) false
+
+-- THE TEST
+unfoldable pub residentsTest : List ℕ → ℕ → Bool
+residentsTest w c =
+    cond (countsTest w c) (cond (sideTest w c 0) (cond (sideTest w c 1) (ringAt w c 2) false) false) false
+
+-- what the walk of a list asks: it is a ring
+pub record CanList (w : List ℕ) (c i : ℕ) : Type 0 where
+  pub room : Room w c
+  pub side : i < 2
+  pub ring : Ring (linksOf c w) c (c + i) (listsOf w c i)

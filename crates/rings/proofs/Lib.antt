@@ -1,0 +1,14 @@
+-- The laws of rings. Assumes nothing.
+pub mod Members
+pub mod Pigeons
+pub mod Links
+pub mod Ring
+pub mod Moves
+pub mod Reading
+pub mod Following
+pub mod Walks
+pub mod Counting
+pub mod Filling
+pub mod Family
+pub mod Needs
+pub mod Cases

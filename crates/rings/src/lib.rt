@@ -1,0 +1,131 @@
+// Rings: circular doubly linked lists over the cells of a lent part of words. The cells below m are members of at most one ring
+// each, the cells from m on are the rings' sentinels. A ring starts and ends at its sentinel, so that no change has a branch.
+// A ring keeps no count: who needs one keeps it beside the cells.
+//
+// A change is stated as a function of the words (specs/Rings.antt). What it means for the rings is said by the laws:
+// for one ring and for another beside it in proofs/Ring.antt and Moves.antt, for a family of rings in Family.antt.
+ghost use mathlib.Core.Path.{_≡_};
+ghost use Rattle.cells.specs.Cells.{In};
+ghost use Rattle.rings.specs.Rings.{inserted, detached, fronted, ended, replaced, emptied, filled, CanInsert, CanDetach, CanFront, CanEnd, CanReplace, CanFill};
+ghost use Rattle.rings.specs.Walks.{countOf, ringTest, CanWalk};
+
+// e, which is in no ring, comes before f, a member or a sentinel: before the sentinel is the end.
+pub fn insert(w: &mut [u64], f: usize, e: usize)
+    requires { ⌜ CanInsert (now w) f e ⌝ }
+    ensures { λ _. ⌜ now (w .exit) ≡ inserted f e (now (w .entry)) ⌝ }
+{
+    let p = cells::prev(w, f);
+    cells::set_next(w, e, f);
+    cells::set_prev(w, e, p);
+    cells::set_prev(w, f, e);
+    cells::set_next(w, p, e);
+}
+
+// e leaves its ring. Its own two numbers stay.
+pub fn detach(w: &mut [u64], e: usize)
+    requires { ⌜ CanDetach (now w) e ⌝ }
+    ensures { λ _. ⌜ now (w .exit) ≡ detached e (now (w .entry)) ⌝ }
+{
+    let p = cells::prev(w, e);
+    let n = cells::next(w, e);
+    cells::set_next(w, p, n);
+    cells::set_prev(w, n, p);
+}
+
+// e leaves its ring and comes to the front of the ring of s, which may be its own.
+pub fn to_front(w: &mut [u64], s: usize, e: usize)
+    requires { ⌜ CanFront (now w) s e ⌝ }
+    ensures { λ _. ⌜ now (w .exit) ≡ fronted s e (now (w .entry)) ⌝ }
+{
+    detach(w, e);
+    let f = cells::next(w, s);
+    insert(w, f, e);
+}
+
+// e leaves its ring and comes to the end of the ring of s, which may be its own.
+pub fn to_end(w: &mut [u64], s: usize, e: usize)
+    requires { ⌜ CanEnd (now w) s e ⌝ }
+    ensures { λ _. ⌜ now (w .exit) ≡ ended s e (now (w .entry)) ⌝ }
+{
+    detach(w, e);
+    insert(w, s, e);
+}
+
+// y, which is in no ring, takes the place of x in its ring. Four stores would do; by the two calls the proof is theirs, and the time
+// was the same within a nanosecond.
+pub fn replace(w: &mut [u64], x: usize, y: usize)
+    requires { ⌜ CanReplace (now w) x y ⌝ }
+    ensures { λ _. ⌜ now (w .exit) ≡ replaced x y (now (w .entry)) ⌝ }
+{
+    let n = cells::next(w, x);
+    detach(w, x);
+    insert(w, n, y);
+}
+
+// The ring of s has no members.
+pub fn empty(w: &mut [u64], s: usize)
+    requires { ⌜ In (now w) s ⌝ }
+    ensures { λ _. ⌜ now (w .exit) ≡ emptied s (now (w .entry)) ⌝ }
+{
+    cells::set_next(w, s, s);
+    cells::set_prev(w, s, s);
+}
+
+// The ring of s has all members, in rising order. Any words may lie there before.
+pub fn fill(w: &mut [u64], m: usize, s: usize)
+    requires { ⌜ CanFill (now w) m s ⌝ }
+    ensures { λ _. ⌜ now (w .exit) ≡ filled s m (now (w .entry)) ⌝ }
+{
+    empty(w, s);
+    let mut i = 0;
+    while i < m {
+        insert(w, s, i);
+        i = i + 1;
+    }
+}
+
+// What a walk finds: so many members, or no ring, or more members than allowed.
+pub enum Walk {
+    Members(usize),
+    Bad,
+}
+
+// How many members the ring of s has, at most `most`, for any words. Each link is held against the link back, so that no cell is
+// passed twice: the walk is linear in m whatever the words are.
+pub fn count(w: &[u64], m: usize, s: usize, most: usize) -> Walk
+    requires { ⌜ CanWalk (now w) m s ⌝ }
+    ensures { λ r. ⌜ r ≡ countOf (now (w .entry)) m s most ⌝ }
+{
+    let mut n = 0;
+    let mut cur = s;
+    let mut x = cells::next(w, s);
+    while x < m {
+        if n == most {
+            return Walk::Bad;
+        }
+        if cells::prev(w, x) != cur {
+            return Walk::Bad;
+        }
+        n = n + 1;
+        cur = x;
+        x = cells::next(w, x);
+    }
+    if x != s {
+        return Walk::Bad;
+    }
+    if cells::prev(w, s) != cur {
+        return Walk::Bad;
+    }
+    Walk::Members(n)
+}
+
+// Whether the ring of s has exactly n members, for any words.
+pub fn check(w: &[u64], m: usize, s: usize, n: usize) -> bool
+    requires { ⌜ CanWalk (now w) m s ⌝ }
+    ensures { λ r. ⌜ r ≡ ringTest (now (w .entry)) m s n ⌝ }
+{
+    match count(w, m, s, n) {
+        Walk::Members(k) => k == n,
+        Walk::Bad => false,
+    }
+}

@@ -1,0 +1,2 @@
+-- The laws of tails. Assumes nothing.
+pub mod Laws

@@ -1,0 +1,2 @@
+-- The definitions that the contracts of `tails` cite. Assumes nothing.
+pub mod Tails
