@@ -59,10 +59,11 @@ module _ (c : ℕ) (w u : List ℕ) (size : endAt c ≤ length w) where
       record {
         size = length-splice 43 (5 * c + 52) u w (omega arith) (omega arith) l;
         parts = same-parts _ _ _ _ _ _ _ _ _ _ (header-word 2 w v (omega arith) head) (part-splice 43 (5 * c + 52) u w (omega arith) (omega arith) l)
-          (above (5 * c + 52) (5 * c + 52 + 2 * c + 5) (omega arith)) (above (7 * c + 57) (7 * c + 57 + 2 * c + 5) (omega arith)) (above (9 * c + 62) (24 * c + 64) (omega arith));
+            (above (5 * c + 52) (5 * c + 52 + 2 * c + 5) (omega arith)) (above (7 * c + 57) (7 * c + 57 + 2 * c + 5) (omega arith)) (above (9 * c + 62) (24 * c + 64) (omega arith));
         kind = header-word 0 w v (omega arith) head;
         capacity = header-word 1 w v (omega arith) head;
-        rest = drop-above 43 (5 * c + 52) u w (omega arith) (omega arith) l (24 * c + 64) (omega arith) }
+        rest = drop-above 43 (5 * c + 52) u w (omega arith) (omega arith) l (24 * c + 64) (omega arith);
+      }
 
   pub lookup-became : length u ≡ 15 * c + 2 → Became c w (splice (9 * c + 62) (24 * c + 64) u w) (setLookup u (partsOf c w))
   unfolding partsOf residentsIn ghostsIn lookupIn
@@ -74,11 +75,12 @@ module _ (c : ℕ) (w u : List ℕ) (size : endAt c ≤ length w) where
       record {
         size = length-splice (9 * c + 62) (24 * c + 64) u w (omega arith) (omega arith) l;
         parts = same-parts _ _ _ _ _ _ _ _ _ _ (header-word 2 w v (omega arith) head) (below 43 (5 * c + 52) (omega arith) (omega arith))
-          (below (5 * c + 52) (5 * c + 52 + 2 * c + 5) (omega arith) (omega arith)) (below (7 * c + 57) (7 * c + 57 + 2 * c + 5) (omega arith) (omega arith))
-          (part-splice (9 * c + 62) (24 * c + 64) u w (omega arith) (omega arith) l);
+            (below (5 * c + 52) (5 * c + 52 + 2 * c + 5) (omega arith) (omega arith)) (below (7 * c + 57) (7 * c + 57 + 2 * c + 5) (omega arith) (omega arith))
+            (part-splice (9 * c + 62) (24 * c + 64) u w (omega arith) (omega arith) l);
         kind = header-word 0 w v (omega arith) head;
         capacity = header-word 1 w v (omega arith) head;
-        rest = drop-above (9 * c + 62) (24 * c + 64) u w (omega arith) (omega arith) l (24 * c + 64) (omega arith) }
+        rest = drop-above (9 * c + 62) (24 * c + 64) u w (omega arith) (omega arith) l (24 * c + 64) (omega arith);
+      }
 
   pub ghosts-became : (i : Side) → length u ≡ 2 * c + 5 → Became c w (splice (ghostsAt i c) (ghostsAt i c + 2 * c + 5) u w) (setGhosts i u (partsOf c w))
   unfolding partsOf residentsIn ghostsIn lookupIn
@@ -91,11 +93,12 @@ module _ (c : ℕ) (w u : List ℕ) (size : endAt c ≤ length w) where
       record {
         size = length-splice a b u w (omega arith) (omega arith) l;
         parts = same-parts _ _ _ _ _ _ _ _ _ _ (header-word 2 w v (omega arith) head) (part-below a b u w (omega arith) (omega arith) l 43 (5 * c + 52) (omega arith) (omega arith))
-          (part-splice a b u w (omega arith) (omega arith) l) (part-above a b u w (omega arith) (omega arith) l (7 * c + 57) (7 * c + 57 + 2 * c + 5) (omega arith))
-          (part-above a b u w (omega arith) (omega arith) l (9 * c + 62) (24 * c + 64) (omega arith));
+            (part-splice a b u w (omega arith) (omega arith) l) (part-above a b u w (omega arith) (omega arith) l (7 * c + 57) (7 * c + 57 + 2 * c + 5) (omega arith))
+            (part-above a b u w (omega arith) (omega arith) l (9 * c + 62) (24 * c + 64) (omega arith));
         kind = header-word 0 w v (omega arith) head;
         capacity = header-word 1 w v (omega arith) head;
-        rest = drop-above a b u w (omega arith) (omega arith) l (24 * c + 64) (omega arith) }
+        rest = drop-above a b u w (omega arith) (omega arith) l (24 * c + 64) (omega arith);
+      }
   ghosts-became second q =
       let a = 7 * c + 57 in
       let b = 7 * c + 57 + 2 * c + 5 in
@@ -105,12 +108,13 @@ module _ (c : ℕ) (w u : List ℕ) (size : endAt c ≤ length w) where
       record {
         size = length-splice a b u w (omega arith) (omega arith) l;
         parts = same-parts _ _ _ _ _ _ _ _ _ _ (header-word 2 w v (omega arith) head) (part-below a b u w (omega arith) (omega arith) l 43 (5 * c + 52) (omega arith) (omega arith))
-          (part-below a b u w (omega arith) (omega arith) l (5 * c + 52) (5 * c + 52 + 2 * c + 5) (omega arith) (omega arith))
-          (part-splice a b u w (omega arith) (omega arith) l)
-          (part-above a b u w (omega arith) (omega arith) l (9 * c + 62) (24 * c + 64) (omega arith));
+            (part-below a b u w (omega arith) (omega arith) l (5 * c + 52) (5 * c + 52 + 2 * c + 5) (omega arith) (omega arith))
+            (part-splice a b u w (omega arith) (omega arith) l)
+            (part-above a b u w (omega arith) (omega arith) l (9 * c + 62) (24 * c + 64) (omega arith));
         kind = header-word 0 w v (omega arith) head;
         capacity = header-word 1 w v (omega arith) head;
-        rest = drop-above a b u w (omega arith) (omega arith) l (24 * c + 64) (omega arith) }
+        rest = drop-above a b u w (omega arith) (omega arith) l (24 * c + 64) (omega arith);
+      }
 
 -- ---- the target written
 part-set : (a b : ℕ) (w : List ℕ) (t : ℕ) → 2 < a → part a b (set w 2 t) ≡ part a b w
@@ -124,10 +128,11 @@ target-became c t w size =
     record {
       size = length-set w 2 t;
       parts = same-parts _ _ _ _ _ _ _ _ _ _ (getD-set-same w 2 t 0 (omega arith)) (part-set 43 (5 * c + 52) w t (omega arith))
-        (part-set (5 * c + 52) (5 * c + 52 + 2 * c + 5) w t (omega arith)) (part-set (7 * c + 57) (7 * c + 57 + 2 * c + 5) w t (omega arith)) (part-set (9 * c + 62) (24 * c + 64) w t (omega arith));
+          (part-set (5 * c + 52) (5 * c + 52 + 2 * c + 5) w t (omega arith)) (part-set (7 * c + 57) (7 * c + 57 + 2 * c + 5) w t (omega arith)) (part-set (9 * c + 62) (24 * c + 64) w t (omega arith));
       kind = getD-set-other w 2 0 t 0 (λ e. omega arith);
       capacity = getD-set-other w 2 1 t 0 (λ e. omega arith);
-      rest = drop-set-lt (24 * c + 64) w 2 t (omega arith) }
+      rest = drop-set-lt (24 * c + 64) w 2 t (omega arith);
+    }
 
 -- ---- where a side's ghost list starts
 pub starts-first : (c i : ℕ) → i ≡ 0 → Starts c (sideOf i) (5 * c + 52)
@@ -200,7 +205,8 @@ recorded-at c i a w u r size s l d =
     let q = ghosts-part c i a w s in
     record {
       answer = d .cell ∙ ap (ghosts.recordCell c) q;
-      became = ghosts-written c i a w u _ size s (l ∙ ap length q) (d .words ∙ ap (ghosts.recorded c) q) }
+      became = ghosts-written c i a w u _ size s (l ∙ ap length q) (d .words ∙ ap (ghosts.recorded c) q);
+    }
 
 pub forgot-at : (c : ℕ) (i : Side) (a : ℕ) (w u : List ℕ) (g : ℕ) → endAt c ≤ length w → Starts c i a → length u ≡ length (part a (a + 2 * c + 5) w)
     → u ≡ ghosts.forgotten c g (part a (a + 2 * c + 5) w)

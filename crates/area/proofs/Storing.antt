@@ -18,4 +18,5 @@ left c w v q s t b d =
       reads = ap (stateOf c) (b .parts) ∙ d .reads;
       kind = b .kind;
       size = b .size;
-      rest = b .rest }
+      rest = b .rest;
+    }

@@ -49,11 +49,12 @@ lookupIn c w = part (lookupAt c) (endAt c) w
 
 unfoldable pub partsOf : ℕ → List ℕ → Parts
 partsOf c w = record {
-    target = targetOf w;
-    residents = residentsIn c w;
-    ghosts1 = ghostsIn first c w;
-    ghosts2 = ghostsIn second c w;
-    lookup = lookupIn c w }
+  target = targetOf w;
+  residents = residentsIn c w;
+  ghosts1 = ghostsIn first c w;
+  ghosts2 = ghostsIn second c w;
+  lookup = lookupIn c w;
+}
 
 -- where a side's ghost list starts, and that it lies between the residents and the lookup
 pub record Starts (c : ℕ) (i : Side) (r : ℕ) : Type 0 where

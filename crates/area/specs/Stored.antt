@@ -39,9 +39,10 @@ plainly e = entry (e .page) (e .frame) tt
 
 unfoldable pub arcOf : Car → Arc
 arcOf s = record {
-    c = s .lists .c;
-    target = s .lists .target;
-    T1 = map plainly (s .lists .T1);
-    T2 = map plainly (s .lists .T2);
-    B1 = s .lists .B1;
-    B2 = s .lists .B2 }
+  c = s .lists .c;
+  target = s .lists .target;
+  T1 = map plainly (s .lists .T1);
+  T2 = map plainly (s .lists .T2);
+  B1 = s .lists .B1;
+  B2 = s .lists .B2;
+}

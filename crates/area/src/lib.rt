@@ -7,6 +7,7 @@
 pub mod ghost_parts;
 pub mod lookup_part;
 pub mod resident_part;
+
 ghost use mathlib.Core.Path.{_≡_};
 ghost use Prim.Native.Nat.{_+_, _*_, _<_, _≤_};
 ghost use lib.ListN.{length};

@@ -51,8 +51,7 @@ pub fn to_end(w: &mut [u64], s: usize, e: usize)
     insert(w, s, e);
 }
 
-// y, which is in no ring, takes the place of x in its ring. Four stores would do; by the two calls the proof is theirs, and the time
-// was the same within a nanosecond.
+// y, which is in no ring, takes the place of x in its ring. Four stores would do; by the two calls the proof is theirs.
 pub fn replace(w: &mut [u64], x: usize, y: usize)
     requires { ⌜ CanReplace (now w) x y ⌝ }
     ensures { λ _. ⌜ now (w .exit) ≡ replaced x y (now (w .entry)) ⌝ }
