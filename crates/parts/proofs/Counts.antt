@@ -1,17 +1,15 @@
 -- Laws of lists of cells: how often a number stands in one, by its members; and what a list has once a number has left it, or is its last. Assumes nothing.
 use mathlib.Core.Path.{_≡_, refl, sym, ap, _∙_}
-use mathlib.Core.Bool.{Bool, true, false, cond}
-use mathlib.Core.Logic.{_⊎_, inl, inr, ⊎-elim}
-use mathlib.Core.List.{List, [], _∷_, _++_, map}
-use Prim.Native.Nat.{ℕ, zero, suc, _+_, _-_, _<_, _≤_}
+use mathlib.Core.Logic.{_⊎_, inl, inr}
+use mathlib.Core.List.{List, [], _∷_, map}
+use Prim.Native.Nat.{ℕ, _+_, _≤_}
 use native.Mathlib.Omega.{arith}
-use lib.ListN.{length}
 use lib.Dec.{eqb}
 use borrow.Author.Tests.{eq-eqb, ne-eqb}
-use Rattle.rules.specs.Lists.{one, times, leave}
+use Rattle.rules.specs.Lists.{one, times}
 use Rattle.rings.specs.Members.{Mem, Fresh, Distinct, without, lastOf, withoutLast}
 use Rattle.rings.proofs.Members.{same-or-other, not-mem, fresh, fresh-without}
-use Rattle.rings.proofs.Pigeons.{last-mem, without-last}
+use Rattle.rings.proofs.Pigeons.{without-last}
 
 -- how often
 pub times-none : (f : ℕ → ℕ) (p : ℕ) (xs : List ℕ) → ((x : ℕ) → Mem x xs → f x ≡ p → ⊥) → times p (map f xs) ≡ 0
@@ -30,10 +28,6 @@ pub times-some : (f : ℕ → ℕ) (p e : ℕ) (xs : List ℕ) → Mem e xs → 
 times-some f p e (x ∷ xs) (inl z) q = rw (eq-eqb p (f x) (sym q ∙ ap f z)) (omega arith)
 times-some f p e (x ∷ xs) (inr k) q = let h : 1 ≤ times p (map f xs) = times-some f p e xs k q in omega arith
 
-pub map-self : (xs : List ℕ) → map (λ (x : ℕ). x) xs ≡ xs
-map-self [] = refl
-map-self (x ∷ xs) = ap (λ (l : List ℕ). x ∷ l) (map-self xs)
-
 pub times-fresh : (k : ℕ) (xs : List ℕ) → Fresh k xs → times k xs ≡ 0
 times-fresh k [] f = refl
 times-fresh k (x ∷ xs) f = let h : times k xs ≡ 0 = times-fresh k xs (f .1) in rw (ne-eqb k x (f .0)) (omega arith)
@@ -50,10 +44,6 @@ times-member k (x ∷ xs) d m = go (same-or-other k x) m (λ j. times-member k x
 pub mem-map : (f : ℕ → ℕ) (y : ℕ) (xs : List ℕ) → Mem y (map f xs) → (x : ℕ) × Mem x xs × (y ≡ f x)
 mem-map f y (x ∷ xs) (inl q) = (x, inl refl, q)
 mem-map f y (x ∷ xs) (inr k) = let r = mem-map f y xs k in (r .0, inr (r .1), r .2)
-
-pub map-mem : (f : ℕ → ℕ) (x : ℕ) (xs : List ℕ) → Mem x xs → Mem (f x) (map f xs)
-map-mem f x (y ∷ xs) (inl q) = inl (ap f q)
-map-mem f x (y ∷ xs) (inr k) = inr (map-mem f x xs k)
 
 pub distinct-map : (f : ℕ → ℕ) (xs : List ℕ) → Distinct xs → ((x y : ℕ) → f x ≡ f y → x ≡ y) → Distinct (map f xs)
 distinct-map f [] d u = tt

@@ -2,24 +2,24 @@
 -- the words of ARC's and CAR's replacement. Assumes nothing.
 use mathlib.Core.Path.{_≡_, refl, sym, ap, _∙_}
 use mathlib.Core.Bool.{false}
-use mathlib.Core.Option.{Option, some}
+use mathlib.Core.Option.{some}
 use mathlib.Core.List.{List, [], _∷_, _++_, map, append-nil}
 use Prim.Native.Nat.{ℕ, _+_, _<_, _≤_}
 use native.Mathlib.Omega.{arith}
 use native.Mathlib.Nat.{not-suc-le-zero}
-use lib.ListN.{length, drop, length-map}
+use lib.ListN.{length, drop}
 use Rattle.rules.specs.Lists.{times, dropLast, last}
 use Rattle.rules.specs.State.{Entry, pages, without, Lists, Side, first, second, list, setList, leaves, seen, Sound}
 use Rattle.rules.specs.Ghosts.{recordIn}
 use Rattle.rules.specs.Stages.{recordPlace}
-use Rattle.rules.specs.Car.{Car, car, Clocked, withBit, atEnd, passed, evicted}
+use Rattle.rules.specs.Car.{car, Clocked, withBit, atEnd, passed, evicted}
 use Rattle.rules.proofs.ListLaws.{eqb-self, one-self, split-last, times-pages-append, without-append, without-none}
 use Rattle.cells.specs.Cells.{nextOf, prevOf}
-use Rattle.rings.specs.Members.{Mem, lastOf}
+use Rattle.rings.specs.Members.{Mem}
 use Rattle.rings.proofs.Reading.{first-is, first-member, last-is, last-member}
 use Rattle.residents.specs.Residents.{linksOf}
 use Rattle.parts.specs.Parts.{Parts, numberOf, Holds, residentOf, stateOf}
-use Rattle.parts.specs.States.{residentAt, endedAt, evictedAt}
+use Rattle.parts.specs.States.{endedAt, evictedAt}
 use Rattle.parts.proofs.Maps.{last-map}
 use Rattle.parts.proofs.Sides.{number-below}
 use Rattle.parts.proofs.HoldsAs.{slotsOf}

@@ -1,16 +1,15 @@
 -- A new resident enters T1 or T2 in the top free slot. Its page was held nowhere. In order: the top free slot; what the code asks; the parts and the state after it. Where it
 -- comes to is said in Adding.antt. Assumes nothing.
 use mathlib.Core.Path.{_≡_, refl, sym, ap, _∙_}
-use mathlib.Core.Bool.{Bool, true, false}
-use mathlib.Core.Logic.{_⊎_, inl, inr, ⊎-elim}
+use mathlib.Core.Logic.{_⊎_, ⊎-elim}
 use mathlib.Core.List.{List, [], _∷_, _++_, map}
-use Prim.Native.Nat.{ℕ, _+_, _-_, _*_, _^_, _<_, _≤_}
+use Prim.Native.Nat.{ℕ, _+_, _<_, _≤_}
 use native.Mathlib.Omega.{arith}
 use native.Mathlib.Nat.{not-suc-le-zero}
 use lib.ListN.{length, getD, drop, length-map}
 use lib.Dec.{eqb}
-use Rattle.rules.specs.State.{Side, first, second, entry, list, setList, residents}
-use Rattle.rules.specs.Car.{Car, car, Resident, clocked}
+use Rattle.rules.specs.State.{Side, first, second, list, setList, residents}
+use Rattle.rules.specs.Car.{Car, car, Resident}
 use Rattle.rings.specs.Members.{Mem, without}
 use Rattle.rings.specs.Rings.{Ring, changed}
 use Rattle.rings.proofs.Members.{mem-without, without-first, not-mem}
@@ -24,7 +23,7 @@ use Rattle.lookup.specs.Lookup.{bucketIn, findOf, look, none}
 use Rattle.lookup.specs.Changes.{CanPut, Put}
 use Rattle.lookup.proofs.Putting.{can-put, put-does}
 use Rattle.lookup.proofs.Look.{look-absent}
-use Rattle.parts.specs.Parts.{Parts, setResidents, setLookup, numberOf, ghostPlace, HeldIn, DeadIn, Holds, residentOf, ghostOf, stateOf}
+use Rattle.parts.specs.Parts.{Parts, setResidents, setLookup, numberOf, ghostPlace, Holds, residentOf, stateOf}
 use Rattle.parts.specs.Changes.{enteredLookup}
 use Rattle.parts.specs.States.{newResident}
 use Rattle.parts.proofs.Maps.{map-same, map-append}

@@ -1,9 +1,9 @@
 -- A resident is put out: it leaves, and its page is recorded in a ghost list. Assumes nothing.
 use mathlib.Core.Path.{_≡_, refl, sym, ap, _∙_}
-use mathlib.Core.Bool.{Bool, true, false}
-use mathlib.Core.Logic.{_⊎_, inl, inr, ⊎-elim}
-use mathlib.Core.List.{List, [], _∷_, map}
-use Prim.Native.Nat.{ℕ, _+_, _-_, _*_, _<_, _≤_}
+use mathlib.Core.Bool.{true, false}
+use mathlib.Core.Logic.{⊎-elim}
+use mathlib.Core.List.{List, _∷_, map}
+use Prim.Native.Nat.{ℕ, _<_, _≤_}
 use native.Mathlib.Omega.{arith}
 use lib.ListN.{length, take}
 use lib.Dec.{eqb}
@@ -13,16 +13,15 @@ use Rattle.rules.specs.Ghosts.{recordIn}
 use Rattle.rules.specs.Car.{Car, car, Resident}
 use Rattle.rings.specs.Members.{Mem, without}
 use Rattle.rings.proofs.Members.{mem-without}
-use Rattle.ghosts.specs.Ghosts.{Ghosts, countOf, recordCell, recorded, cellOf, liveAfter, spareAfter, CanRecord}
+use Rattle.ghosts.specs.Ghosts.{Ghosts, recorded, cellOf, spareAfter, CanRecord}
 use Rattle.ghosts.proofs.Recording.{record-cell, record-ghosts}
 use Rattle.lookup.specs.Buckets.{bucketsOf, placesOf}
-use Rattle.lookup.specs.Part.{pageOf}
 use Rattle.lookup.specs.Lookup.{bucketIn}
 use Rattle.lookup.specs.Changes.{CanTake, CanRename}
 use Rattle.lookup.proofs.Taking.{can-take}
 use Rattle.parts.specs.Parts.{Parts, ghostsOf, setGhosts, ghostPlace, HeldIn, DeadIn, Holds, residentOf, ghostOf, stateOf}
 use Rattle.parts.specs.Changes.{recordPlaceOf, isFull, clearedFor, evicted}
-use Rattle.parts.specs.States.{residentAt, evictedAt}
+use Rattle.parts.specs.States.{evictedAt}
 use Rattle.parts.proofs.Maps.{map-same}
 use Rattle.parts.proofs.Sides.{other, each-side, changedAt, changedAt-here, changedAt-other, ghosts-here, ghosts-other, place-high, place-below, place-one, place-apart}
 use Rattle.parts.proofs.HoldsAs.{HoldsAs, named, slotsOf, liveIn, spareIn, stateAs, residentsAs, ghostsAs, Becomes, reads-as, becomes, states-same}

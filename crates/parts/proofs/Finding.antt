@@ -1,13 +1,11 @@
 -- What the lookup answers for a page, in terms of the state: the resident of a slot, a page of B1, a page of B2, or a page that stands nowhere. Assumes nothing.
 use mathlib.Core.Path.{_≡_, refl, sym, ap, _∙_}
-use mathlib.Core.Bool.{Bool, true, false}
-use mathlib.Core.Logic.{_⊎_, inl, inr, ⊎-elim}
-use mathlib.Core.Option.{Option, some, none}
-use mathlib.Core.List.{List, [], _∷_, _++_, map}
-use Prim.Native.Nat.{ℕ, _+_, _-_, _*_, _<_, _≤_}
+use mathlib.Core.Bool.{true, false}
+use mathlib.Core.Option.{some, none}
+use mathlib.Core.List.{_++_, map}
+use Prim.Native.Nat.{ℕ, _<_, _≤_}
 use native.Mathlib.Omega.{arith}
-use lib.Dec.{ltb}
-use borrow.Author.Tests.{lt-ltb, le-ltb}
+use borrow.Author.Tests.{lt-ltb}
 use Rattle.rules.specs.Lists.{times, holds}
 use Rattle.rules.specs.State.{Side, first, second, found, resident}
 use Rattle.rules.specs.Calls.{ghost, nowhere}
@@ -21,7 +19,7 @@ use Rattle.lookup.proofs.Table.{can-find}
 use Rattle.parts.specs.Parts.{Parts, ghostPlace, HeldIn, Holds, residentOf, ghostOf, stateOf}
 use Rattle.parts.proofs.Counts.{times-none, times-some}
 use Rattle.parts.proofs.Maps.{map-append, found-map, found-none-map}
-use Rattle.parts.proofs.Sides.{place-high, place-below, place-apart}
+use Rattle.parts.proofs.Sides.{place-high, place-apart}
 use Rattle.parts.proofs.HoldsAs.{HoldsAs, named, slotsOf, liveIn, spareIn}
 use Rattle.parts.proofs.Pages as Pages
 use Rattle.parts.proofs.Pages.{Place, slot, cell}

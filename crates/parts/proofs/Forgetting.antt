@@ -1,14 +1,14 @@
 -- A cell of a ghost list is forgotten: its page leaves that list. Assumes nothing.
 use mathlib.Core.Path.{_≡_, refl, sym, ap, _∙_}
-use mathlib.Core.Logic.{_⊎_, inl, inr, ⊎-elim}
-use mathlib.Core.List.{List, [], _∷_, map}
-use Prim.Native.Nat.{ℕ, _+_, _-_, _*_, _<_, _≤_}
+use mathlib.Core.Logic.{⊎-elim}
+use mathlib.Core.List.{List, _∷_, map}
+use Prim.Native.Nat.{ℕ, _<_}
 use native.Mathlib.Omega.{arith}
 use lib.ListN.{length}
 use Rattle.rules.specs.Lists.{leave, dropLast}
 use Rattle.rules.specs.State.{Side, first, second, ghosts, setGhosts as setGhostsOf}
 use Rattle.rules.specs.Ghosts.{dropOldest}
-use Rattle.rules.specs.Car.{Car, car, Resident}
+use Rattle.rules.specs.Car.{car, Resident}
 use Rattle.cells.specs.Cells.{prevOf}
 use Rattle.rings.specs.Members.{Mem, without, withoutLast}
 use Rattle.rings.proofs.Members.{not-mem, mem-without, fresh-without}
@@ -17,13 +17,13 @@ use Rattle.ghosts.specs.Ghosts.{Ghosts, forgotten, CanForget, linksOf as ghostL
 use Rattle.ghosts.proofs.Laws.{forget-ghosts}
 use Rattle.lookup.specs.Buckets.{bucketsOf, placesOf}
 use Rattle.lookup.specs.Lookup.{bucketIn}
-use Rattle.lookup.specs.Changes.{taken, CanTake, Taken}
+use Rattle.lookup.specs.Changes.{CanTake, Taken}
 use Rattle.lookup.proofs.Taking.{can-take, take-does}
-use Rattle.parts.specs.Parts.{Parts, ghostsOf, setGhosts, ghostPlace, HeldIn, DeadIn, Holds, residentOf, ghostOf, stateOf}
+use Rattle.parts.specs.Parts.{Parts, ghostsOf, setGhosts, ghostPlace, HeldIn, DeadIn, Holds, ghostOf, stateOf}
 use Rattle.parts.specs.Changes.{forgot}
 use Rattle.parts.specs.States.{forgotAt}
 use Rattle.parts.proofs.Maps.{map-same, leave-map, dropLast-map}
-use Rattle.parts.proofs.Sides.{other, each-side, changedAt, changedAt-here, changedAt-other, ghosts-here, ghosts-other, number-below, place-below, place-one, place-apart}
+use Rattle.parts.proofs.Sides.{other, each-side, changedAt, changedAt-here, changedAt-other, ghosts-here, ghosts-other, place-below, place-one, place-apart}
 use Rattle.parts.proofs.HoldsAs.{HoldsAs, named, slotsOf, liveIn, spareIn, stateAs, residentsAs, ghostsAs, Becomes, reads-as, becomes, states-same}
 use Rattle.parts.proofs.Pages.{slot-below, live-below, spare-below, live-distinct, slot-not-ghost, one-ghost}
 use Rattle.parts.proofs.Lists.{resident-same, residents-same, ghost-same, ghosts-are}

@@ -1,11 +1,11 @@
 -- The page of a slot goes over to the cell that a ghost list gives, once the page that this cell had has left. Assumes nothing.
-use mathlib.Core.Path.{_≡_, refl, sym, ap, _∙_}
+use mathlib.Core.Path.{_≡_, refl, _∙_}
 use mathlib.Core.Bool.{Bool, true, false}
-use mathlib.Core.List.{List, [], _∷_}
-use Prim.Native.Nat.{ℕ, _+_, _*_, _<_, _≤_}
+use mathlib.Core.List.{List}
+use Prim.Native.Nat.{ℕ, _<_}
 use Rattle.lookup.specs.Part.{pageOf}
 use Rattle.lookup.specs.Lookup.{Lookup, Held, Dead, bucketIn}
-use Rattle.lookup.specs.Changes.{taken, renamed, CanTake, CanRename, Taken, Renamed}
+use Rattle.lookup.specs.Changes.{renamed, CanRename}
 use Rattle.lookup.proofs.Table.{held-below, dead-unheld}
 use Rattle.lookup.proofs.Taking.{take-does}
 use Rattle.lookup.proofs.Renaming.{can-rename, rename-does}

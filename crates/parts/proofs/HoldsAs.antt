@@ -1,7 +1,7 @@
 -- The parts hold a cache whose lists are named: L, of slots, and for each side the live and the spare cells of its ghost list. The names say no more than the reading does. Assumes nothing.
-use mathlib.Core.Path.{_≡_, refl, sym, ap, _∙_}
-use mathlib.Core.List.{List, [], _∷_, map}
-use Prim.Native.Nat.{ℕ, _+_, _*_, _<_, _≤_}
+use mathlib.Core.Path.{_≡_, refl, _∙_}
+use mathlib.Core.List.{List, map}
+use Prim.Native.Nat.{ℕ, _<_, _≤_}
 use native.Mathlib.Omega.{arith}
 use Rattle.rules.specs.State.{Side, first, second}
 use Rattle.rules.specs.Car.{Car, car, Resident}

@@ -1,8 +1,8 @@
 -- A resident leaves, and its slot is the top free one. In order: the lists of slots; what the code asks; the resident is removed. Assumes nothing.
 use mathlib.Core.Path.{_≡_, refl, sym, ap, _∙_}
 use mathlib.Core.Logic.{_⊎_, inl, inr, ⊎-elim}
-use mathlib.Core.List.{List, [], _∷_, map}
-use Prim.Native.Nat.{ℕ, _+_, _-_, _*_, _<_, _≤_}
+use mathlib.Core.List.{List, _∷_, map}
+use Prim.Native.Nat.{ℕ, _<_, _≤_}
 use native.Mathlib.Omega.{arith}
 use Rattle.rules.specs.State.{Side, first, second, leaves, without as withoutPage}
 use Rattle.rules.specs.Car.{Car, car, Resident}
@@ -16,18 +16,18 @@ use Rattle.residents.proofs.Slots.{same-freed}
 use Rattle.lookup.specs.Buckets.{bucketsOf, placesOf}
 use Rattle.lookup.specs.Part.{pageOf}
 use Rattle.lookup.specs.Lookup.{bucketIn}
-use Rattle.lookup.specs.Changes.{taken, CanTake, Taken}
+use Rattle.lookup.specs.Changes.{CanTake, Taken}
 use Rattle.lookup.proofs.Taking.{can-take, take-does}
-use Rattle.parts.specs.Parts.{Parts, ghostPlace, HeldIn, DeadIn, Holds, residentOf, ghostOf, stateOf}
+use Rattle.parts.specs.Parts.{Parts, ghostPlace, Holds, residentOf, stateOf}
 use Rattle.parts.specs.Changes.{removed}
-use Rattle.parts.specs.States.{residentAt, removedAt}
+use Rattle.parts.specs.States.{removedAt}
 use Rattle.parts.proofs.Maps.{map-same}
 use Rattle.parts.proofs.Sides.{place-high, place-below}
 use Rattle.parts.proofs.HoldsAs.{HoldsAs, named, slotsOf, liveIn, spareIn, stateAs, residentsAs, ghostsAs, Becomes, reads-as, becomes, states-same}
-use Rattle.parts.proofs.Pages.{slot-below, live-below, spare-below, slot-not-ghost}
+use Rattle.parts.proofs.Pages.{slot-below, live-below, spare-below}
 use Rattle.parts.proofs.Reading.{resident-at}
 use Rattle.parts.proofs.Lists.{resident-same, ghosts-same, leaves-list}
-use Rattle.parts.proofs.Slots.{less, mem-moved, fronted-lists, less-none, less-not, list-number}
+use Rattle.parts.proofs.Slots.{less, mem-moved, fronted-lists, less-none, less-not}
 
 -- a resident leaves slot e: of a state of named lists
 left-as : (x e c t : ℕ) (T : Side → List Resident) (B : Side → List ℕ) (f : List ℕ) → car (leaves x (stateAs c t T B f .lists)) (e ∷ stateAs c t T B f .free) ≡ stateAs c t (λ j. withoutPage x (T j)) B (e ∷ f)

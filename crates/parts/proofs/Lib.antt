@@ -19,3 +19,7 @@ pub mod Entering
 pub mod Adding
 pub mod Ends
 pub mod Making
+pub mod Answers
+pub mod Sizes
+pub mod Updating
+pub mod Ranging

@@ -1,11 +1,11 @@
 -- What two parts that agree on a slot or a cell read there, and the lists that a resident leaves. Assumes nothing.
-use mathlib.Core.Path.{_≡_, refl, sym, ap, _∙_}
-use mathlib.Core.List.{List, [], _∷_, _++_, map}
-use Prim.Native.Nat.{ℕ, _+_, _-_, _*_, _<_, _≤_}
+use mathlib.Core.Path.{_≡_, refl}
+use mathlib.Core.List.{List, map}
+use Prim.Native.Nat.{ℕ, _<_}
 use native.Mathlib.Omega.{arith}
 use lib.Dec.{eqb}
 use Rattle.rules.specs.State.{Side, first, second, entry, list, ghosts, without as withoutPage}
-use Rattle.rules.specs.Car.{Car, Resident, clocked}
+use Rattle.rules.specs.Car.{clocked}
 use Rattle.rings.specs.Members.{Mem, without}
 use Rattle.residents.specs.Residents.{frameOf, bitOf}
 use Rattle.lookup.specs.Part.{pageOf}

@@ -1,13 +1,12 @@
 -- An empty cache is made, whatever the words were. Assumes nothing.
-use mathlib.Core.Path.{_≡_, refl, sym, ap, _∙_}
+use mathlib.Core.Path.{_≡_, refl, ap}
 use mathlib.Core.Logic.{⊎-elim}
-use mathlib.Core.List.{List, [], _∷_, map}
-use Prim.Native.Nat.{ℕ, zero, suc, _+_, _*_, _/_, _<_, _≤_}
+use mathlib.Core.List.{List, [], _∷_}
+use Prim.Native.Nat.{ℕ, zero, suc, _<_, _≤_}
 use native.Mathlib.Omega.{arith}
 use Rattle.rules.specs.Lists.{countFrom}
 use Rattle.rules.specs.State.{Side, first, second}
-use Rattle.rules.specs.Stages.{startTarget}
-use Rattle.rules.specs.Car.{Car, new}
+use Rattle.rules.specs.Car.{new}
 use Rattle.rings.specs.Members.{Mem, upFrom}
 use Rattle.rings.proofs.Members.{same-or-other, below-mem}
 use Rattle.rings.proofs.Pigeons.{below-upFrom}
@@ -19,10 +18,10 @@ use Rattle.lookup.specs.Buckets.{bucketsOf, placesOf}
 use Rattle.lookup.specs.Part.{Room as LookupRoom}
 use Rattle.lookup.specs.Changes.{Made}
 use Rattle.lookup.proofs.Making.{make-does}
-use Rattle.parts.specs.Parts.{Parts, ghostsOf, ghostPlace, DeadIn, Holds}
+use Rattle.parts.specs.Parts.{Parts, ghostsOf, ghostPlace, Holds}
 use Rattle.parts.specs.Changes.{made}
 use Rattle.parts.proofs.Sides.{place-below}
-use Rattle.parts.proofs.HoldsAs.{HoldsAs, stateAs, residentsAs, ghostsAs, Becomes, becomes, states-same}
+use Rattle.parts.proofs.HoldsAs.{HoldsAs, stateAs, Becomes, becomes}
 
 -- the parts have room for a cache of capacity c
 pub record HaveRoom (c : ℕ) (p : Parts) : Type 0 where

@@ -1,19 +1,17 @@
 -- Lists that are read off lists of cells: what the rules do to them by page is what is done to the cells by number. In order: any list; residents; numbers.
 -- Assumes nothing.
 use mathlib.Core.Path.{_≡_, refl, sym, ap, _∙_}
-use mathlib.Core.Bool.{Bool, true, false, cond}
-use mathlib.Core.Logic.{_⊎_, inl, inr, ⊎-elim}
-use mathlib.Core.Option.{Option, some, none}
+use mathlib.Core.Logic.{_⊎_, inl, inr}
+use mathlib.Core.Option.{some, none}
 use mathlib.Core.List.{List, [], _∷_, _++_, map}
-use Prim.Native.Nat.{ℕ, zero, suc, _+_, _-_, _<_, _≤_}
+use Prim.Native.Nat.{ℕ, zero, suc}
 use native.Mathlib.Omega.{arith}
 use lib.ListN.{length, take}
-use lib.Dec.{eqb}
 use borrow.Author.Tests.{eq-eqb, ne-eqb}
 use Rattle.rules.specs.Lists.{leave, dropLast, last}
 use Rattle.rules.specs.State.{Entry, found, changed, without as withoutPage}
 use Rattle.rules.specs.Car.{Resident}
-use Rattle.rings.specs.Members.{Mem, Fresh, Distinct, without, lastOf, withoutLast}
+use Rattle.rings.specs.Members.{Mem, Distinct, without, lastOf, withoutLast}
 use Rattle.rings.proofs.Members.{same-or-other}
 use Rattle.parts.specs.States.{atSlot}
 use Rattle.parts.proofs.Counts.{without-absent}

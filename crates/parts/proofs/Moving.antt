@@ -1,11 +1,10 @@
 -- A resident comes to the front of T2, or goes to its end with its bit cleared. Assumes nothing.
 use mathlib.Core.Path.{_≡_, refl, sym, ap, _∙_}
-use mathlib.Core.Bool.{Bool, true, false}
-use mathlib.Core.Logic.{_⊎_, inl, inr, ⊎-elim}
+use mathlib.Core.Bool.{false}
+use mathlib.Core.Logic.{_⊎_, ⊎-elim}
 use mathlib.Core.List.{List, [], _∷_, _++_, map}
-use Prim.Native.Nat.{ℕ, _+_, _-_, _*_, _<_, _≤_}
+use Prim.Native.Nat.{ℕ, _<_}
 use native.Mathlib.Omega.{arith}
-use lib.Dec.{eqb}
 use Rattle.rules.specs.State.{Side, first, second, setList, leaves, without as withoutPage}
 use Rattle.rules.specs.Car.{Car, car, Resident, withBit}
 use Rattle.rings.specs.Members.{Mem, without}
@@ -17,7 +16,7 @@ use Rattle.residents.proofs.Steps.{promote-residents, send-back-residents}
 use Rattle.residents.proofs.Slots.{frame-promoted, bit-promoted, frame-sent-back, bit-sent-back, bit-cleared}
 use Rattle.parts.specs.Parts.{Parts, setResidents, Holds, residentOf, ghostOf, stateOf}
 use Rattle.parts.specs.Changes.{toFront, toEnd}
-use Rattle.parts.specs.States.{residentAt, frontedAt, endedAt}
+use Rattle.parts.specs.States.{frontedAt, endedAt}
 use Rattle.parts.proofs.Maps.{map-same, map-append}
 use Rattle.parts.proofs.Sides.{changedAt}
 use Rattle.parts.proofs.HoldsAs.{HoldsAs, named, slotsOf, liveIn, spareIn, stateAs, residentsAs, ghostsAs, Becomes, reads-as, becomes, states-same}

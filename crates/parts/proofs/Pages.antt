@@ -2,7 +2,7 @@
 use mathlib.Core.Path.{_≡_, refl, sym, ap, _∙_}
 use mathlib.Core.Bool.{Bool, true, false}
 use mathlib.Core.Logic.{_⊎_, inl, inr, ⊎-elim}
-use mathlib.Core.List.{List, [], _∷_, _++_, map}
+use mathlib.Core.List.{List, [], _++_}
 use Prim.Native.Nat.{ℕ, _+_, _-_, _*_, _<_, _≤_}
 use native.Mathlib.Omega.{arith}
 use lib.ListN.{length, length-append}
@@ -10,12 +10,12 @@ use lib.Dec.{ltb}
 use borrow.Author.Tests.{ltb-true, ltb-false}
 use Rattle.rules.specs.State.{Side, first, second}
 use Rattle.rings.specs.Members.{Mem, Fresh, Distinct, without}
-use Rattle.rings.specs.Rings.{changed, outOf, together}
+use Rattle.rings.specs.Rings.{outOf, together}
 use Rattle.rings.proofs.Members.{same-or-other, not-mem, below-mem}
-use Rattle.rings.proofs.Ring.{ring-distinct, member-below}
+use Rattle.rings.proofs.Ring.{ring-distinct}
 use Rattle.rings.proofs.Family.{changed-here, changed-other, rings-apart, together-covers}
-use Rattle.residents.specs.Residents.{linksOf, total, Residents}
-use Rattle.ghosts.specs.Ghosts.{Ghosts, linksOf as ghostLinks}
+use Rattle.residents.specs.Residents.{linksOf, total}
+use Rattle.ghosts.specs.Ghosts.{linksOf as ghostLinks}
 use Rattle.ghosts.proofs.Laws.{apart-lists, live-or-spare}
 use Rattle.lookup.specs.Buckets.{bucketsOf, placesOf}
 use Rattle.lookup.specs.Part.{pageOf}
@@ -23,7 +23,7 @@ use Rattle.lookup.specs.Lookup.{bucketIn}
 use Rattle.lookup.proofs.Table.{held-below, held-unique, dead-unheld}
 use Rattle.parts.specs.Parts.{Parts, ghostsOf, ghostPlace, HeldIn, DeadIn, residentOf, ghostOf}
 use Rattle.parts.proofs.Counts.{without-absent}
-use Rattle.parts.proofs.Sides.{place-high, place-below, place-one}
+use Rattle.parts.proofs.Sides.{place-high, place-one}
 use Rattle.parts.proofs.HoldsAs.{HoldsAs}
 
 low-or-high : (x b : ℕ) → (x < b) ⊎ (b ≤ x)
@@ -78,9 +78,6 @@ module _ (c : ℕ) (p : Parts) (L : ℕ → List ℕ) (live spare : Side → Lis
       (same-or-other u i)
 
   -- places
-  pub ghost-place : (i : Side) (g : ℕ) → Mem g (live i) → HeldIn c p (ghostPlace i c g)
-  ghost-place i g k = a .recorded i g k
-
   pub slot-not-ghost : (i x : ℕ) (s : Side) (g : ℕ) → i < 3 → Mem x (L i) → x ≡ ghostPlace s c g → ⊥
   slot-not-ghost i x s g h k q = let l : x < c = slot-below i x h k in let z : c ≤ ghostPlace s c g = place-high s c g in omega arith
 

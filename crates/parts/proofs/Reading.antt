@@ -1,30 +1,30 @@
 -- What the state is that parts read as. In order: the resident of a slot; the pages and slots of the lists; the state obeys the rules. Assumes nothing.
 use mathlib.Core.Path.{_≡_, refl, sym, ap, _∙_}
 use mathlib.Core.Bool.{Bool, true, false}
-use mathlib.Core.Logic.{_⊎_, inl, inr, ⊎-elim}
+use mathlib.Core.Logic.{⊎-elim}
 use mathlib.Core.List.{List, [], _∷_, _++_, map}
-use Prim.Native.Nat.{ℕ, _+_, _-_, _*_, _<_, _≤_}
+use Prim.Native.Nat.{ℕ, _+_, _<_, _≤_}
 use native.Mathlib.Omega.{arith}
-use lib.ListN.{length, length-append, length-map}
+use lib.ListN.{length, length-map}
 use lib.Dec.{ltb}
-use borrow.Author.Tests.{ltb-true, ltb-false, lt-ltb, le-ltb}
+use borrow.Author.Tests.{ltb-true, ltb-false}
 use Rattle.rules.specs.Lists.{one, times}
-use Rattle.rules.specs.State.{Side, first, second, pages, seen, Sound}
-use Rattle.rules.specs.Car.{Car, Resident, slots, taken, Obeys}
+use Rattle.rules.specs.State.{Side, first, second, pages, Sound}
+use Rattle.rules.specs.Car.{slots, taken, Obeys}
 use Rattle.rules.proofs.ListLaws.{times-append}
-use Rattle.rings.specs.Members.{Mem, Fresh, Distinct}
+use Rattle.rings.specs.Members.{Mem, Distinct}
 use Rattle.rings.specs.Rings.{together}
-use Rattle.rings.proofs.Members.{same-or-other, not-mem, fresh, mem-append, mem-left, mem-right, distinct-append, below-fresh}
+use Rattle.rings.proofs.Members.{same-or-other, fresh, mem-append, mem-left, mem-right, distinct-append, below-fresh}
 use Rattle.rings.proofs.Family.{mem-together, together-distinct, together-below}
-use Rattle.residents.specs.Residents.{linksOf, listOf, total}
+use Rattle.residents.specs.Residents.{linksOf, total}
 use Rattle.lookup.specs.Part.{pageOf}
 use Rattle.parts.specs.Parts.{Parts, ghostPlace, HeldIn, Holds, residentOf, ghostOf, stateOf}
 use Rattle.parts.specs.States.{atSlot, residentAt}
 use Rattle.parts.proofs.Counts.{times-once, times-fresh, times-member, mem-map, distinct-map}
 use Rattle.parts.proofs.Maps.{map-append, atSlot-map}
-use Rattle.parts.proofs.Sides.{place-high, place-one, place-apart}
+use Rattle.parts.proofs.Sides.{place-one, place-apart}
 use Rattle.parts.proofs.HoldsAs.{HoldsAs, named, slotsOf, liveIn, spareIn}
-use Rattle.parts.proofs.Pages.{slot-below, live-below, slots-apart, slots-distinct, live-distinct, slot-not-ghost, one-place, slot-somewhere}
+use Rattle.parts.proofs.Pages.{live-below, slots-apart, slots-distinct, live-distinct, slot-not-ghost, one-place, slot-somewhere}
 
 -- ---- the resident of a slot
 pub slot-is : (c : ℕ) (p : Parts) (e : ℕ) → residentOf c p e .more .slot ≡ e

@@ -1,20 +1,19 @@
 -- The target, the frame of a resident and its bit are set. Assumes nothing.
 use mathlib.Core.Path.{_≡_, refl, sym, ap, _∙_}
-use mathlib.Core.Bool.{Bool, true, false}
-use mathlib.Core.List.{List, [], _∷_, map}
-use Prim.Native.Nat.{ℕ, _+_, _-_, _*_, _^_, _<_, _≤_}
+use mathlib.Core.List.{List}
+use Prim.Native.Nat.{ℕ, _^_, _<_, _≤_}
 use native.Mathlib.Omega.{arith}
 use lib.Dec.{eqb}
-use Rattle.rules.specs.State.{Entry, entry, withFrame, Side, first, second, changedIn, changed, setTarget as setTargetOf}
-use Rattle.rules.specs.Car.{Car, car, Resident, Clocked, clocked, withBit}
+use Rattle.rules.specs.State.{withFrame, Side, changedIn, changed}
+use Rattle.rules.specs.Car.{Car, car, Resident, withBit}
 use Rattle.rings.specs.Members.{Mem}
-use Rattle.residents.specs.Residents.{frameOf, bitOf, Residents}
+use Rattle.residents.specs.Residents.{Residents}
 use Rattle.residents.specs.Changes.{withFrame as frameWords, withBit as bitWords}
 use Rattle.residents.proofs.Words.{frame-here, bit-here, same-frame, same-bit, bit-withFrame, frame-withBit}
 use Rattle.residents.proofs.Slots.{set-frame-residents, set-bit-residents}
 use Rattle.parts.specs.Parts.{Parts, setTarget, setResidents, numberOf, Holds, residentOf, ghostOf, stateOf}
 use Rattle.parts.specs.Changes.{framed, marked}
-use Rattle.parts.specs.States.{residentAt, framedAt, markedAt, aimedAt}
+use Rattle.parts.specs.States.{framedAt, markedAt, aimedAt}
 use Rattle.parts.proofs.Maps.{changed-map}
 use Rattle.parts.proofs.Sides.{number-below}
 use Rattle.parts.proofs.HoldsAs.{HoldsAs, named, slotsOf, liveIn, spareIn, stateAs, residentsAs, ghostsAs, Becomes, reads-as, becomes, states-same}

@@ -1,9 +1,9 @@
 -- The two sides: the ghost list of one is set and that of the other stays; the places of their cells. Assumes nothing.
-use mathlib.Core.Path.{_≡_, refl, sym, ap, _∙_}
+use mathlib.Core.Path.{_≡_, refl}
 use mathlib.Core.List.{List}
-use Prim.Native.Nat.{ℕ, _+_, _*_, _<_, _≤_}
+use Prim.Native.Nat.{ℕ, _*_, _<_, _≤_}
 use native.Mathlib.Omega.{arith}
-use Rattle.rules.specs.State.{Side, first, second, choose}
+use Rattle.rules.specs.State.{Side, first, second}
 use Rattle.parts.specs.Parts.{Parts, ghostsOf, setGhosts, numberOf, ghostPlace}
 
 abbrev pub other : Side → Side

@@ -1,32 +1,21 @@
--- Lists of slots after a resident has moved. In order: the resident of a slot, of named lists; a slot that leaves every list and comes to one; parts of which the residents alone are others. Assumes nothing.
-use mathlib.Core.Path.{_≡_, refl, sym, ap, _∙_}
+-- Lists of slots after a resident has moved. In order: a slot that leaves every list and comes to one; parts of which the residents alone are others; what the code asks of a slot. Assumes nothing.
+use mathlib.Core.Path.{_≡_, sym, ap, _∙_}
 use mathlib.Core.Logic.{_⊎_, inl, inr, ⊎-elim}
-use mathlib.Core.List.{List, [], _∷_, _++_, map}
-use Prim.Native.Nat.{ℕ, _+_, _-_, _*_, _<_, _≤_}
+use mathlib.Core.List.{List, [], _∷_, _++_}
+use Prim.Native.Nat.{ℕ, _<_}
 use native.Mathlib.Omega.{arith}
-use Rattle.rules.specs.State.{Side, first, second}
-use Rattle.rules.specs.Car.{Car, Resident}
-use Rattle.rings.specs.Members.{Mem, Fresh, without}
+use Rattle.rules.specs.State.{Side}
+use Rattle.rings.specs.Members.{Mem, without}
 use Rattle.rings.specs.Rings.{changed, outOf, frontedIn, endedIn}
-use Rattle.rings.proofs.Members.{same-or-other, not-mem, mem-without, fresh-without}
+use Rattle.rings.proofs.Members.{same-or-other, not-mem, fresh-without}
 use Rattle.rings.proofs.Family.{changed-here, changed-other}
-use Rattle.residents.specs.Residents.{listOf, listsOf, Residents}
+use Rattle.residents.specs.Residents.{listOf, Residents}
 use Rattle.residents.specs.Changes.{IsResident, HasSlot}
 use Rattle.residents.proofs.Changes.{residents-same}
-use Rattle.parts.specs.Parts.{Parts, ghostsOf, setResidents, Holds, residentOf, stateOf}
-use Rattle.parts.specs.States.{atSlot, residentAt}
+use Rattle.parts.specs.Parts.{Parts, setResidents, Holds}
 use Rattle.parts.proofs.Counts.{without-absent}
-use Rattle.parts.proofs.Maps.{map-append, atSlot-map}
-use Rattle.parts.proofs.HoldsAs.{HoldsAs, named, slotsOf, liveIn, spareIn, stateAs, residentsAs, ghostsAs, reads-as}
+use Rattle.parts.proofs.HoldsAs.{HoldsAs, named, slotsOf, liveIn, spareIn}
 use Rattle.parts.proofs.Pages.{slot-below, slots-apart, slots-distinct, out-of}
-use Rattle.parts.proofs.Reading.{slot-is, in-both}
-
--- ---- the resident of a slot
-pub resident-as : (c t : ℕ) (p : Parts) (L : ℕ → List ℕ) (B : Side → List ℕ) (f : List ℕ) (i e : ℕ) → i < 2 → Mem e (L i) → residentAt e (stateAs c t (residentsAs c p L) B f) ≡ residentOf c p e
-unfolding residentAt stateAs
-resident-as c t p L B f i e h k =
-    ap (atSlot e) (sym (map-append (residentOf c p) (L 0) (L 1)))
-    ∙ atSlot-map (residentOf c p) e (L 0 ++ L 1) (slot-is c p) (in-both L i e h k)
 
 -- ---- every list without the slot e
 abbrev pub less : ℕ → (ℕ → List ℕ) → ℕ → List ℕ
@@ -68,9 +57,6 @@ module _ (c : ℕ) (p : Parts) (L : ℕ → List ℕ) (live spare : Side → Lis
   -- who stays is not e
   pub less-not : (e u x : ℕ) → u < 3 → Mem x (without e (L u)) → x ≡ e → ⊥
   less-not e u x hu k q = not-mem e (without e (L u)) (fresh-without e (L u) (slots-distinct c p L live spare a u hu)) (rw q at k)
-
-  pub resident-named : (i e : ℕ) → i < 2 → Mem e (L i) → residentAt e (stateOf c p) ≡ residentOf c p e
-  resident-named i e h k = ap (residentAt e) (reads-as c p L live spare a) ∙ resident-as c (p .target) p L (ghostsAs c p live) (L 2) i e h k
 
   -- other residents, of the same slots
   pub rearranged : (v : List ℕ) (M : ℕ → List ℕ) → Residents v c M → ((u x : ℕ) → u < 2 → Mem x (M u) → (w : ℕ) × (w < 2) × Mem x (L w)) → ((x : ℕ) → Mem x (M 2) → Mem x (L 2)) → HoldsAs c (setResidents v p) M live spare
