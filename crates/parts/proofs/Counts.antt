@@ -45,6 +45,10 @@ pub mem-map : (f : ℕ → ℕ) (y : ℕ) (xs : List ℕ) → Mem y (map f xs) �
 mem-map f y (x ∷ xs) (inl q) = (x, inl refl, q)
 mem-map f y (x ∷ xs) (inr k) = let r = mem-map f y xs k in (r .0, inr (r .1), r .2)
 
+pub map-mem : (f : ℕ → ℕ) (x : ℕ) (xs : List ℕ) → Mem x xs → Mem (f x) (map f xs)
+map-mem f x (y ∷ xs) (inl q) = inl (ap f q)
+map-mem f x (y ∷ xs) (inr k) = inr (map-mem f x xs k)
+
 pub distinct-map : (f : ℕ → ℕ) (xs : List ℕ) → Distinct xs → ((x y : ℕ) → f x ≡ f y → x ≡ y) → Distinct (map f xs)
 distinct-map f [] d u = tt
 distinct-map f (x ∷ xs) d u = (fresh (f x) (map f xs) (λ k. let r = mem-map f (f x) xs k in not-mem x xs (d .0) (rw (u x (r .0) (r .2)) (r .1))), distinct-map f xs (d .1) u)

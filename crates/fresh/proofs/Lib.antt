@@ -1,0 +1,4 @@
+-- The laws of an empty cache. Assumes nothing.
+pub mod Rooms
+pub mod Laws
+pub mod Unique

@@ -1,0 +1,20 @@
+-- `fresh::set_header` meets its contract. Assumes nothing.
+use lib.ListN.{length-set}
+use Rattle.fresh.proofs.Laws.{laws, headed-is}
+use Rattle.fresh.proofs.set_header.Statement.{statement}
+use Rattle.fresh.proofs.set_header.Tie as tie
+
+slice-write-area : tie.Need-slice-write-area
+slice-write-area c = search laws
+
+slice-write-area-2 : tie.Need-slice-write-area-2
+slice-write-area-2 c = simp length-set (search laws)
+
+same-length : tie.Need-same-length
+same-length c = search laws
+
+returns : tie.Need-returns
+returns c = search headed-is
+
+pub set-header-spec : {M : Type 1} → statement M
+set-header-spec = tie.close (tie.spec slice-write-area slice-write-area-2 same-length returns)

@@ -1,0 +1,2 @@
+-- The definitions that the contracts of `fresh` cite. Assumes nothing.
+pub mod Fresh

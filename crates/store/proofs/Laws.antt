@@ -1,0 +1,39 @@
+-- The laws of `store`, together. Assumes nothing.
+use borrow.Author.Needs.{needs}
+use Rattle.store.proofs.Slots.{slot-fits, place-fits, resident-fits, frame-reads, bit-reads, page-reads, frame-left, bit-left, front-left, end-left, remove-takes, remove-left, target-left}
+use Rattle.store.proofs.Finding.{may-look, finds-slot, finds-recent, finds-frequent, finds-nowhere}
+use Rattle.store.proofs.Ghosts.{first-place, second-place, ghost-low, forget-takes, forget-left, oldest-low, oldest-left, listed-is, recorded-is}
+use Rattle.store.proofs.Ends.{first-is, last-is}
+
+pub ruleset laws = (
+  slot-fits,
+  place-fits,
+  resident-fits,
+  frame-reads,
+  bit-reads,
+  page-reads,
+  frame-left,
+  bit-left,
+  front-left,
+  end-left,
+  remove-takes,
+  remove-left,
+  target-left,
+  may-look,
+  finds-slot,
+  finds-recent,
+  finds-frequent,
+  finds-nowhere,
+  first-place,
+  second-place,
+  ghost-low,
+  forget-takes,
+  forget-left,
+  oldest-low,
+  oldest-left,
+  listed-is,
+  recorded-is,
+  first-is,
+  last-is,
+  needs,
+)

@@ -1,0 +1,9 @@
+-- The laws that answer the needs of `store`. Assumes nothing.
+pub mod Steps
+pub mod Slots
+pub mod Finding
+pub mod Ghosts
+pub mod Ends
+pub mod Evicting
+pub mod Entering
+pub mod Laws

@@ -1,0 +1,23 @@
+use Rattle.store.proofs.Entering.{enter-adds, enter-puts, enter-front-left}
+use Rattle.store.proofs.Laws.{laws}
+use Rattle.store.proofs.enter_front.Statement.{statement}
+use Rattle.store.proofs.enter_front.Tie as tie
+
+find-requires : tie.Need-find-requires
+find-requires c κs = search laws
+
+add-front-requires : tie.Need-add-front-requires
+add-front-requires c κs = enter-adds _ _ _ _ _ _ (c .before .before .before .before .pre .0) (c .before .before .before .before .pre .1)
+
+put-requires : tie.Need-put-requires
+put-requires c κs = enter-puts _ _ _ _ _ _ (c .before .before .before .before .before .before .before .before .pre .0) (c .before .before .before .before .before .before .before .before .pre .1) _ (c .before .before .before .before .before .find .ensures) _ _ _ (c .before .before .before .add-front .ensures)
+
+same-length : tie.Need-same-length
+same-length c = search laws
+
+returns : tie.Need-returns
+returns c = enter-front-left _ _ _ _ _ _ (c .before .before .before .before .before .before .before .before .before .before .before .pre .0) (c .before .before .before .before .before .before .before .before .before .before .before .pre .1) _ (c .before .before .before .before .before .before .before .before .find .ensures) _ _ (c .before .before .before .before .before .before .add-front .ensures) _ (c .before .before .put .ensures)
+
+pub enter-front-spec : {M : Type 1} → statement M
+enter-front-spec =
+    tie.close (tie.spec find-requires add-front-requires put-requires same-length returns)

@@ -1,0 +1,2 @@
+-- The definitions that the contracts of `store` cite. Assumes nothing.
+pub mod Store

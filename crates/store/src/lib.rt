@@ -1,0 +1,236 @@
+// One area as a store of residents and ghosts: the operations that both policies are made of. Each asks that the area holds a cache of
+// capacity c, and leaves one; what it does to the state that the area reads as is said in the rules' own words (parts/specs/States.antt).
+// No policy is known here, and no link.
+ghost use mathlib.Core.Path.{_≡_};
+ghost use Prim.Native.Nat.{_+_, _^_, _<_, _≤_};
+ghost use lib.Dec.{eqb};
+ghost use lib.ListN.{length};
+ghost use Rattle.rules.specs.State.{list, ghosts};
+ghost use Rattle.parts.specs.States.{residentAt, framedAt, markedAt, aimedAt, frontedAt, endedAt, removedAt, evictedAt, forgotAt, enteredAtFront, enteredAtEnd};
+ghost use Rattle.parts.specs.Parts.{ghostPlace};
+ghost use Rattle.area.specs.Area.{sideOf};
+ghost use Rattle.area.specs.Stored.{Stored, stateIn, Left};
+ghost use Rattle.store.specs.Store.{HasSlot, IsSlot, HasGhost, FoundIs, Evicts, CanEnter, HasSome, FirstIs, LastIs, HasOldest, droppedAt, Leaves};
+
+// Where a page is: a resident by its slot, a ghost of B1 (`Recent`) or of B2 (`Frequent`) by its cell, or in no list.
+pub enum Found {
+    Resident(usize),
+    Recent(usize),
+    Frequent(usize),
+    Nowhere,
+}
+
+// The victim of an eviction.
+pub struct Out {
+    pub page: u64,
+    pub frame: u64,
+}
+
+// Where the page x is.
+pub fn find(a: &[u64], c: usize, x: u64) -> Found
+    requires { ⌜ Stored c (now a) ⌝ }
+    ensures { λ r. ⌜ FoundIs c (now (a .entry)) x r ⌝ }
+{
+    let y = area::lookup_part::place_of(a, c, x);
+    if y < c {
+        return Found::Resident(y);
+    }
+    let d = 2 * c;
+    if y < d {
+        return Found::Recent(y - c);
+    }
+    let m = 3 * c;
+    if y < m {
+        return Found::Frequent(y - d);
+    }
+    Found::Nowhere
+}
+
+// The lengths of T1 (i = 0) and T2 (i = 1), and of the ghost list of a side.
+pub fn listed(a: &[u64], c: usize, i: usize) -> usize
+    requires { ⌜ Stored c (now a) × (i < 2) ⌝ }
+    ensures { λ r. ⌜ r ≡ length (list (sideOf i) (stateIn c (now (a .entry)) .lists)) ⌝ }
+{
+    area::resident_part::count(a, c, i)
+}
+
+pub fn recorded(a: &[u64], c: usize, i: usize) -> usize
+    requires { ⌜ Stored c (now a) × (i < 2) ⌝ }
+    ensures { λ r. ⌜ r ≡ length (ghosts (sideOf i) (stateIn c (now (a .entry)) .lists)) ⌝ }
+{
+    area::ghost_parts::count(a, c, i)
+}
+
+// The frame, the bit and the page of the resident of slot e.
+pub fn frame(a: &[u64], c: usize, e: usize) -> u64
+    requires { ⌜ IsSlot c (now a) e ⌝ }
+    ensures { λ r. ⌜ r ≡ residentAt e (stateIn c (now (a .entry))) .frame ⌝ }
+{
+    area::resident_part::frame(a, c, e)
+}
+
+pub fn referenced(a: &[u64], c: usize, e: usize) -> bool
+    requires { ⌜ IsSlot c (now a) e ⌝ }
+    ensures { λ r. ⌜ r ≡ residentAt e (stateIn c (now (a .entry))) .more .bit ⌝ }
+{
+    area::resident_part::bit(a, c, e) == 1
+}
+
+pub fn page(a: &[u64], c: usize, e: usize) -> u64
+    requires { ⌜ IsSlot c (now a) e ⌝ }
+    ensures { λ r. ⌜ r ≡ residentAt e (stateIn c (now (a .entry))) .page ⌝ }
+{
+    area::lookup_part::page(a, c, e)
+}
+
+// The first slot of T1 or T2, and the last, where the list has one.
+pub fn first(a: &[u64], c: usize, i: usize) -> usize
+    requires { ⌜ HasSome c (now a) i ⌝ }
+    ensures { λ r. ⌜ FirstIs c (now (a .entry)) i r ⌝ }
+{
+    area::resident_part::first(a, c, i)
+}
+
+pub fn last(a: &[u64], c: usize, i: usize) -> usize
+    requires { ⌜ HasSome c (now a) i ⌝ }
+    ensures { λ r. ⌜ LastIs c (now (a .entry)) i r ⌝ }
+{
+    area::resident_part::last(a, c, i)
+}
+
+// The target is t.
+pub fn set_target(a: &mut [u64], c: usize, t: u64)
+    requires { ⌜ Stored c (now a) × (t ≤ c) ⌝ }
+    ensures { λ _. ⌜ Left c (now (a .entry)) (now (a .exit)) (aimedAt t (stateIn c (now (a .entry)))) ⌝ }
+{
+    area::set_target(a, c, t);
+}
+
+// The resident of slot e gets the frame f.
+pub fn set_frame(a: &mut [u64], c: usize, e: usize, f: u64)
+    requires { ⌜ IsSlot c (now a) e × (f < 2 ^ 32) ⌝ }
+    ensures { λ _. ⌜ Left c (now (a .entry)) (now (a .exit)) (framedAt e f (stateIn c (now (a .entry)))) ⌝ }
+{
+    area::resident_part::set_frame(a, c, e, f);
+}
+
+// Its reference bit is set to b.
+pub fn set_bit(a: &mut [u64], c: usize, e: usize, b: u64)
+    requires { ⌜ IsSlot c (now a) e × (b < 2) ⌝ }
+    ensures { λ _. ⌜ Left c (now (a .entry)) (now (a .exit)) (markedAt e (eqb b 1) (stateIn c (now (a .entry)))) ⌝ }
+{
+    area::resident_part::set_bit(a, c, e, b);
+}
+
+// It comes to the front of T2.
+pub fn to_front(a: &mut [u64], c: usize, e: usize)
+    requires { ⌜ IsSlot c (now a) e ⌝ }
+    ensures { λ _. ⌜ Left c (now (a .entry)) (now (a .exit)) (frontedAt e (stateIn c (now (a .entry)))) ⌝ }
+{
+    area::resident_part::promote(a, c, e);
+}
+
+// It goes to the end of T2, its bit cleared.
+pub fn to_end(a: &mut [u64], c: usize, e: usize)
+    requires { ⌜ IsSlot c (now a) e ⌝ }
+    ensures { λ _. ⌜ Left c (now (a .entry)) (now (a .exit)) (endedAt e (stateIn c (now (a .entry)))) ⌝ }
+{
+    area::resident_part::send_back(a, c, e);
+}
+
+// It leaves, and its slot is the top free one. No ghost list is told.
+pub fn remove(a: &mut [u64], c: usize, e: usize)
+    requires { ⌜ IsSlot c (now a) e ⌝ }
+    ensures { λ _. ⌜ Left c (now (a .entry)) (now (a .exit)) (removedAt e (stateIn c (now (a .entry)))) ⌝ }
+{
+    area::resident_part::free(a, c, e);
+    area::lookup_part::take(a, c, e);
+}
+
+// The place in the lookup of cell g of a side's ghost list.
+pub fn ghost_place(c: usize, i: usize, g: usize) -> usize
+    requires { ⌜ (c ≤ 1024) × (i < 2) × (g < c) ⌝ }
+    ensures { λ r. ⌜ r ≡ ghostPlace (sideOf i) c g ⌝ }
+{
+    if i == 0 {
+        return c + g;
+    }
+    2 * c + g
+}
+
+// The page of cell g of a side's ghost list leaves it.
+pub fn forget(a: &mut [u64], c: usize, i: usize, g: usize, x: u64)
+    requires { ⌜ HasGhost c (now a) (sideOf i) g x × (i < 2) ⌝ }
+    ensures { λ _. ⌜ Left c (now (a .entry)) (now (a .exit)) (forgotAt (sideOf i) x (stateIn c (now (a .entry)))) ⌝ }
+{
+    area::ghost_parts::forget(a, c, i, g);
+    let y = ghost_place(c, i, g);
+    area::lookup_part::take(a, c, y);
+}
+
+// The oldest page of a side's ghost list leaves it.
+pub fn drop_oldest(a: &mut [u64], c: usize, i: usize)
+    requires { ⌜ HasOldest c (now a) i ⌝ }
+    ensures { λ _. ⌜ Left c (now (a .entry)) (now (a .exit)) (droppedAt (sideOf i) (stateIn c (now (a .entry)))) ⌝ }
+{
+    let g = area::ghost_parts::oldest(a, c, i);
+    area::ghost_parts::forget(a, c, i, g);
+    let y = ghost_place(c, i, g);
+    area::lookup_part::take(a, c, y);
+}
+
+// The first half of an eviction: slot e is free, and the ghost list of its side gives a cell. The answer is the cell's place.
+fn leave(a: &mut [u64], c: usize, i: usize, e: usize) -> usize
+    requires { ⌜ HasSlot c (now a) i e ⌝ }
+    ensures { λ r. ⌜ Leaves c (now (a .entry)) (now (a .exit)) i e r ⌝ }
+{
+    area::resident_part::free(a, c, e);
+    let g = area::ghost_parts::record(a, c, i);
+    ghost_place(c, i, g)
+}
+
+// The resident of slot e, which stands in list i, is put out, and its page is recorded in the ghost list of that side. Where that list
+// was full, its oldest page leaves the lookup first.
+fn put_out(a: &mut [u64], c: usize, i: usize, e: usize)
+    requires { ⌜ HasSlot c (now a) i e ⌝ }
+    ensures { λ _. ⌜ Left c (now (a .entry)) (now (a .exit)) (evictedAt (sideOf i) e (stateIn c (now (a .entry)))) ⌝ }
+{
+    let n = area::ghost_parts::count(a, c, i);
+    let y = leave(a, c, i, e);
+    if n == c {
+        area::lookup_part::take(a, c, y);
+        area::lookup_part::rename(a, c, e, y);
+        return;
+    }
+    area::lookup_part::rename(a, c, e, y);
+}
+
+// The same, with the page and the frame of the victim.
+pub fn evict(a: &mut [u64], c: usize, i: usize, e: usize) -> Out
+    requires { ⌜ HasSlot c (now a) i e ⌝ }
+    ensures { λ r. ⌜ Evicts c (now (a .entry)) (now (a .exit)) e r (evictedAt (sideOf i) e (stateIn c (now (a .entry)))) ⌝ }
+{
+    let page = area::lookup_part::page(a, c, e);
+    let frame = area::resident_part::frame(a, c, e);
+    put_out(a, c, i, e);
+    Out { page, frame }
+}
+
+// A new resident of page x, in the top free slot: at the front, or at the end, of T1 (j = 0) or T2 (j = 1).
+pub fn enter_front(a: &mut [u64], c: usize, j: usize, x: u64, f: u64, b: u64)
+    requires { ⌜ CanEnter c (now a) x f b × (j < 2) ⌝ }
+    ensures { λ _. ⌜ Left c (now (a .entry)) (now (a .exit)) (enteredAtFront (sideOf j) x f (eqb b 1) (stateIn c (now (a .entry)))) ⌝ }
+{
+    let place = area::lookup_part::find(a, c, x);
+    let e = area::resident_part::add_front(a, c, j, f, b);
+    area::lookup_part::put(a, c, place, e, x);
+}
+
+pub fn enter_end(a: &mut [u64], c: usize, j: usize, x: u64, f: u64, b: u64)
+    requires { ⌜ CanEnter c (now a) x f b × (j < 2) ⌝ }
+    ensures { λ _. ⌜ Left c (now (a .entry)) (now (a .exit)) (enteredAtEnd (sideOf j) x f (eqb b 1) (stateIn c (now (a .entry)))) ⌝ }
+{
+    let place = area::lookup_part::find(a, c, x);
+    let e = area::resident_part::add_end(a, c, j, f, b);
+    area::lookup_part::put(a, c, place, e, x);
+}
