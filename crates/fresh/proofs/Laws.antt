@@ -1,15 +1,13 @@
 -- What answers the needs of `fresh`. In order: the parts that are made, one after the other; all of them; `clear`; `new`. Assumes nothing.
-use mathlib.Core.Path.{_≡_, refl, sym, ap, _∙_}
+use mathlib.Core.Path.{_≡_, refl, ap, _∙_}
 use mathlib.Core.List.{List}
 use Prim.Native.Nat.{ℕ, _+_, _*_, _/_, _<_, _≤_}
 use native.Mathlib.Omega.{arith}
-use lib.Dec.{ltb}
-use lib.ListN.{length, set, drop, length-set}
+use lib.ListN.{length, set, length-set}
 use lib.Seq.{getD-set-same, getD-set-other, drop-set-lt}
 use borrow.Author.Needs.{needs}
 use borrow.Author.Tests.{lt-ltb, le-ltb}
 use Rattle.rules.specs.State.{Side, first, second}
-use Rattle.rules.specs.Public.{wordsNeeded}
 use Rattle.rules.specs.Car.{new}
 use Rattle.residents.specs.Residents as residents
 use Rattle.residents.specs.Changes as changes
@@ -17,13 +15,12 @@ use Rattle.ghosts.specs.Ghosts as ghosts
 use Rattle.lookup.specs.Buckets.{bucketsOf, placesOf}
 use Rattle.lookup.specs.Part as lookup
 use Rattle.lookup.specs.Changes as lookups
-use Rattle.parts.specs.Parts.{Parts, Holds, stateOf, setTarget, setResidents, setGhosts, setLookup}
+use Rattle.parts.specs.Parts.{Parts, stateOf, setTarget, setResidents, setGhosts, setLookup}
 use Rattle.parts.specs.Changes.{made}
-use Rattle.parts.proofs.HoldsAs.{Becomes}
 use Rattle.parts.proofs.Making.{made-becomes}
 use Rattle.area.specs.Part.{part, splice}
-use Rattle.area.specs.Area.{kindOf, capacityOf, endAt, residentsIn, ghostsIn, lookupIn, sideOf, partsOf, Starts, Fit, Became}
-use Rattle.area.specs.Stored.{Stored, stateIn, Left, Writes}
+use Rattle.area.specs.Area.{endAt, residentsIn, ghostsIn, lookupIn, partsOf, Starts, Fit, Became}
+use Rattle.area.specs.Stored.{Stored, stateIn, Left}
 use Rattle.area.proofs.Laws.{ghosts-part, ghosts-written, lookup-written}
 use Rattle.area.proofs.Storing.{left}
 use Rattle.fresh.specs.Fresh.{Fits, headed, answerOf, Empty, New}

@@ -1,12 +1,12 @@
 -- Any two outcomes that the contract of `new` allows are equal: the answer, the words past the area's need, and the state that the area reads as. Assumes nothing.
-use mathlib.Core.Path.{_≡_, refl, sym, ap, _∙_}
+use mathlib.Core.Path.{_≡_, sym, _∙_}
 use mathlib.Core.List.{List}
 use Prim.Native.Nat.{ℕ}
-use lib.ListN.{length, drop}
+use lib.ListN.{drop}
 use Rattle.rules.specs.Car.{new}
 use Rattle.area.specs.Area.{endAt}
 use Rattle.area.specs.Stored.{stateIn}
-use Rattle.fresh.specs.Fresh.{answerOf, Empty, New}
+use Rattle.fresh.specs.Fresh.{Empty, New}
 use Rattle.fresh.specs.declared.Made as declared
 use Rattle.fresh.specs.declared.Made.the-variants.{Made, Refused}
 

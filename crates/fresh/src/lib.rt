@@ -1,7 +1,7 @@
 // An empty cache in an area: made where any words may lie, and made again where a cache was. ARC's `new` and CAR's call this one with
 // the kind 1 and 2. Each part is lent to the crate that it belongs to.
 ghost use mathlib.Core.Path.{_≡_};
-ghost use Prim.Native.Nat.{_<_, _≤_, _/_};
+ghost use Prim.Native.Nat.{_<_, _/_};
 ghost use Rattle.rules.specs.Car.{new as newState};
 ghost use Rattle.residents.specs.Changes.{made as madeResidents};
 ghost use Rattle.ghosts.specs.Ghosts.{made as madeGhosts};

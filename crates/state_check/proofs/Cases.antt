@@ -1,13 +1,13 @@
 -- The laws that answer the needs of the checks, in the shape in which the code leaves them. In order: what the calls on a part ask; the lists; the lookup;
 -- the dead places; the sums; the parts; all. Assumes nothing.
 use mathlib.Core.Path.{_≡_, refl, sym, ap, _∙_}
-use mathlib.Core.Bool.{Bool, true, false, cond}
+use mathlib.Core.Bool.{Bool, true, false}
 use mathlib.Core.Logic.{⊎-elim}
-use mathlib.Core.List.{List, [], _∷_}
+use mathlib.Core.List.{List}
 use Prim.Native.Nat.{ℕ, _+_, _*_, _<_, _≤_}
 use native.Mathlib.Omega.{arith}
 use lib.ListN.{length, getD}
-use lib.Dec.{eqb, ltb, leb}
+use lib.Dec.{leb}
 use borrow.Author.Needs.{needs}
 use borrow.Author.Tests.{eq-eqb, ne-eqb, lt-ltb, le-ltb}
 use Rattle.rules.specs.State.{Side, first, second}
@@ -25,7 +25,7 @@ use Rattle.parts.specs.Parts.{Parts}
 use Rattle.area.specs.Part.{part}
 use Rattle.area.specs.Area.{residentsIn, ghostsIn, lookupIn, sideOf, endAt, partsOf, Starts, Fit}
 use Rattle.area.proofs.Laws.{ghosts-part}
-use Rattle.state_check.specs.Check.{Fits, Listed, Few, CanTell, CanSpare, deadAt, deadsTest, rowCount, liveCount, listsTest, heldTest, deadTest, sumsTest, partsTest, stateTest}
+use Rattle.state_check.specs.Check.{Fits, Listed, Few, CanTell, CanSpare, deadsTest, rowCount, liveCount, listsTest, heldTest, deadTest, sumsTest, partsTest, stateTest}
 use Rattle.state_check.proofs.Rooms.{residents-room, ghosts-room, lookup-room, have-room}
 use Rattle.state_check.proofs.Lists.{AreLists, lists-sound, first-few, second-few, ghost-few}
 

@@ -1,10 +1,7 @@
 -- The test of the parts is exact: it passes where they hold a cache, and only there. Assumes nothing.
-use mathlib.Core.Path.{_≡_, refl, sym, ap, _∙_}
-use mathlib.Core.Bool.{Bool, true, false, cond}
-use mathlib.Core.List.{List, [], _∷_, _++_, map}
-use Prim.Native.Nat.{ℕ, _+_, _*_, _<_, _≤_}
-use native.Mathlib.Omega.{arith}
-use lib.ListN.{length}
+use mathlib.Core.Path.{_≡_, _∙_}
+use mathlib.Core.Bool.{true, false, cond}
+use Prim.Native.Nat.{ℕ, _*_, _≤_}
 use Rattle.rules.specs.State.{Side, first, second}
 use Rattle.rings.specs.Members.{Mem}
 use Rattle.ghosts.specs.Ghosts.{spareOf}
@@ -12,7 +9,6 @@ use Rattle.residents.specs.Residents.{listsOf}
 use Rattle.lookup.specs.Buckets.{bucketsOf, placesOf}
 use Rattle.lookup.specs.Lookup.{Exactly}
 use Rattle.lookup.proofs.Counts.{held-count}
-use Rattle.lookup_check.specs.Check.{lookupTest}
 use Rattle.lookup_check.proofs.Exact.{test-exactly, test-complete}
 use Rattle.parts.specs.Parts.{Parts, ghostPlace, DeadIn, Holds}
 use Rattle.parts.proofs.HoldsAs.{slotsOf, spareIn}

@@ -1,18 +1,17 @@
 -- The state that parts read as is well formed. In order: words of a part; the ranges; ARC's view of a state; the lengths of its lists by their counts. Assumes nothing.
-use mathlib.Core.Path.{_≡_, refl, sym, ap, _∙_}
-use mathlib.Core.Logic.{_⊎_, inl, inr, ⊎-elim}
+use mathlib.Core.Path.{_≡_, refl, ap}
+use mathlib.Core.Logic.{inl, inr}
 use mathlib.Core.List.{List, [], _∷_, map}
 use Prim.Native.Nat.{ℕ, zero, suc, _+_, _-_, _*_, _^_, _<_, _≤_}
 use native.Mathlib.Omega.{arith}
 use lib.ListN.{length, getD, take, drop, length-map}
 use lib.Seq.{getD-drop}
-use Rattle.rules.specs.Lists.{times, Each}
-use Rattle.rules.specs.State.{Entry, Side, first, second, pages, Sound, Ranged, Fits, IsPage, IsFrame}
+use Rattle.rules.specs.Lists.{Each}
+use Rattle.rules.specs.State.{first, second, pages, Sound, Ranged, Fits, IsPage}
 use Rattle.rules.specs.Arc as arc
 use Rattle.rules.specs.Car as car
 use Rattle.rules.specs.Car.{Car, Resident}
 use Rattle.rings.specs.Members.{Mem}
-use Rattle.residents.specs.Residents.{frameOf}
 use Rattle.lookup.specs.Part.{pageOf}
 use Rattle.parts.specs.Parts.{Parts, ghostPlace, Holds, residentOf, ghostOf, stateOf}
 use Rattle.parts.proofs.HoldsAs.{slotsOf, liveIn}

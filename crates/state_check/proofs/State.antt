@@ -3,7 +3,7 @@
 use mathlib.Core.Path.{_≡_, refl, sym, ap, _∙_}
 use mathlib.Core.Bool.{Bool, true, false, cond, false≢true}
 use mathlib.Core.List.{List}
-use mathlib.Core.Option.{Option, some, none}
+use mathlib.Core.Option.{some, none}
 use Prim.Native.Nat.{ℕ, _+_, _*_, _^_, _<_, _≤_}
 use native.Mathlib.Omega.{arith}
 use lib.ListN.{length, getD}
@@ -14,7 +14,7 @@ use Rattle.rules.specs.Car as car
 use Rattle.rules.specs.Car.{Car}
 use Rattle.parts.specs.Parts.{Parts, Holds, stateOf}
 use Rattle.area.specs.Area.{kindOf, capacityOf, targetOf, endAt, partsOf}
-use Rattle.area.specs.Stored.{Stored, stateIn, arcOf, Writes}
+use Rattle.area.specs.Stored.{stateIn, arcOf, Writes}
 use Rattle.state_check.specs.Check.{rowCount, liveCount, listsTest, heldTest, deadTest, sumsTest, partsTest, stateTest}
 use Rattle.state_check.specs.Reading.{FormedBy, Formed, reading}
 use Rattle.state_check.proofs.Rooms.{have-room}

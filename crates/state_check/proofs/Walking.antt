@@ -1,14 +1,14 @@
 -- The walk of a ring whose places have to be dead: what the loop keeps, and the laws that answer its needs. Assumes nothing.
 use mathlib.Core.Path.{_≡_, refl, sym, ap, _∙_}
 use mathlib.Core.Bool.{Bool, true, false, cond}
-use mathlib.Core.List.{List, [], _∷_}
+use mathlib.Core.List.{List}
 use Prim.Native.Nat.{ℕ, _+_, _*_, _<_, _≤_}
 use native.Mathlib.Omega.{arith}
 use lib.ListN.{length}
 use lib.Dec.{eqb}
 use borrow.Author.Needs.{needs}
 use Rattle.cells.specs.Cells.{In, nextOf, prevOf}
-use Rattle.rings.specs.Rings.{Ring, membersFrom, membersOf}
+use Rattle.rings.specs.Rings.{membersFrom, membersOf}
 use Rattle.rings.proofs.Following.{Following, follow-start, follow-in, follow-end, follow-step, follow-next, follow-less}
 use Rattle.tails.specs.Tails.{tailOf, Tail}
 use Rattle.lookup.specs.Buckets.{bucketsOf, placesOf}

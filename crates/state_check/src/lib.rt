@@ -4,7 +4,7 @@
 // dead: then the lookup, which holds as many places as the lists have, holds exactly theirs. All is linear in the capacity whatever the
 // words are.
 ghost use mathlib.Core.Path.{_≡_};
-ghost use Prim.Native.Nat.{_+_, _*_, _<_, _≤_};
+ghost use Prim.Native.Nat.{_+_, _*_, _<_};
 ghost use Rattle.rings.specs.Rings.{membersOf};
 ghost use Rattle.tails.specs.Tails.{tailOf};
 ghost use Rattle.residents.specs.Residents.{countOf as residentCount, listsOf, IsResidents};
