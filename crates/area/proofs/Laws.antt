@@ -159,7 +159,7 @@ ghosts-written c i a w u x size s l e = rw (s .at, sym e) (ghosts-became c w u s
 
 -- ---- what the calls on a part ask
 module _ (c : ℕ) (w : List ℕ) (small : c ≤ 1024) (size : endAt c ≤ length w) where
-  residents-room : residents.Room (residentsIn c w) c
+  pub residents-room : residents.Room (residentsIn c w) c
   unfolding In tailOf
   residents-room =
       let n = length-residents c w size in
@@ -171,7 +171,7 @@ module _ (c : ℕ) (w : List ℕ) (small : c ≤ 1024) (size : endAt c ≤ lengt
   pub has-slot : (e : ℕ) → e < c → HasSlot (residentsIn c w) c e
   has-slot e h = record { room = residents-room; slot = h }
 
-  ghosts-room : (i : Side) → ghosts.Room (ghostsIn i c w) c
+  pub ghosts-room : (i : Side) → ghosts.Room (ghostsIn i c w) c
   unfolding In tailOf
   ghosts-room i =
       let n = length-ghosts c w size i in

@@ -1,3 +1,4 @@
 pub mod Part
 pub mod Laws
 pub mod Storing
+pub mod Rooms

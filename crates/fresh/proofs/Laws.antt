@@ -25,7 +25,8 @@ use Rattle.area.proofs.Laws.{ghosts-part, ghosts-written, lookup-written}
 use Rattle.area.proofs.Storing.{left}
 use Rattle.fresh.specs.Fresh.{Fits, headed, answerOf, Empty, New}
 use Rattle.fresh.specs.declared.Made.the-variants.{Made, Refused}
-use Rattle.fresh.proofs.Rooms.{residents-room, ghosts-room, lookup-room, have-room}
+use Rattle.area.proofs.Laws.{residents-room, ghosts-room}
+use Rattle.area.proofs.Rooms.{lookup-room, have-room}
 
 -- ---- what the calls ask
 pub residents-asks : (c : ℕ) (w : List ℕ) → Fits c w → residents.Room (residentsIn c w) c

@@ -1,4 +1,3 @@
 -- The laws of an empty cache. Assumes nothing.
-pub mod Rooms
 pub mod Laws
 pub mod Unique

@@ -26,7 +26,8 @@ use Rattle.area.specs.Part.{part}
 use Rattle.area.specs.Area.{residentsIn, ghostsIn, lookupIn, sideOf, endAt, partsOf, Starts, Fit}
 use Rattle.area.proofs.Laws.{ghosts-part}
 use Rattle.state_check.specs.Check.{Fits, Listed, Few, CanTell, CanSpare, deadsTest, rowCount, liveCount, listsTest, heldTest, deadTest, sumsTest, partsTest, stateTest}
-use Rattle.state_check.proofs.Rooms.{residents-room, ghosts-room, lookup-room, have-room}
+use Rattle.area.proofs.Laws.{residents-room, ghosts-room}
+use Rattle.area.proofs.Rooms.{lookup-room, have-room}
 use Rattle.state_check.proofs.Lists.{AreLists, lists-sound, first-few, second-few, ghost-few}
 
 -- ---- what the calls on a part ask

@@ -1,5 +1,4 @@
 -- The laws of the state check. Assumes nothing.
-pub mod Rooms
 pub mod Walking
 pub mod Lists
 pub mod Cases

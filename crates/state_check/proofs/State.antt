@@ -17,7 +17,7 @@ use Rattle.area.specs.Area.{kindOf, capacityOf, targetOf, endAt, partsOf}
 use Rattle.area.specs.Stored.{stateIn, arcOf, Writes}
 use Rattle.state_check.specs.Check.{rowCount, liveCount, listsTest, heldTest, deadTest, sumsTest, partsTest, stateTest}
 use Rattle.state_check.specs.Reading.{FormedBy, Formed, reading}
-use Rattle.state_check.proofs.Rooms.{have-room}
+use Rattle.area.proofs.Rooms.{have-room}
 use Rattle.state_check.proofs.Lists.{both}
 use Rattle.state_check.proofs.Exact.{parts-sound, lists-pass, held-pass, dead-pass}
 use Rattle.state_check.proofs.Formed.{pages-below, car-formed, arc-formed, arc-sums}

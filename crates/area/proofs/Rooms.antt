@@ -4,30 +4,16 @@ use Prim.Native.Nat.{ℕ, _≤_}
 use native.Mathlib.Omega.{arith}
 use lib.ListN.{length, length-drop}
 use Rattle.rules.specs.State.{Side, first, second}
-use Rattle.cells.specs.Cells.{In, Cells, wordsOf}
-use Rattle.tails.specs.Tails.{tailOf}
-use Rattle.residents.specs.Residents as residents
+use Rattle.cells.specs.Cells.{Cells, wordsOf}
 use Rattle.ghosts.specs.Ghosts as ghosts
 use Rattle.lookup.specs.Buckets.{bucketsOf, placesOf}
 use Rattle.lookup.specs.Part as lookup
 use Rattle.parts.specs.Parts.{ghostsOf}
 use Rattle.parts.proofs.Making.{HaveRoom}
-use Rattle.area.specs.Area.{residentsIn, ghostsIn, lookupIn, endAt, partsOf}
-use Rattle.area.proofs.Laws.{length-residents, length-ghosts, length-lookup}
+use Rattle.area.specs.Area.{lookupIn, endAt, partsOf}
+use Rattle.area.proofs.Laws.{length-lookup, residents-room, ghosts-room}
 
 module _ (c : ℕ) (w : List ℕ) (small : c ≤ 1024) (size : endAt c ≤ length w) where
-  pub residents-room : residents.Room (residentsIn c w) c
-  unfolding In tailOf
-  residents-room =
-      let n = length-residents c w size in
-      record { small = small; head = omega arith; links = simp length-drop (omega arith) }
-
-  pub ghosts-room : (i : Side) → ghosts.Room (ghostsIn i c w) c
-  unfolding In tailOf
-  ghosts-room i =
-      let n = length-ghosts c w size i in
-      record { small = small; head = omega arith; links = simp length-drop (omega arith) }
-
   pub lookup-room : lookup.Room (lookupIn c w) (placesOf c) (bucketsOf c)
   unfolding Cells wordsOf lookup.linksOf bucketsOf
   lookup-room =
@@ -36,9 +22,9 @@ module _ (c : ℕ) (w : List ℕ) (small : c ≤ 1024) (size : endAt c ≤ lengt
 
   sides : (i : Side) → ghosts.Room (ghostsOf i (partsOf c w)) c
   unfolding partsOf
-  sides first = ghosts-room first
-  sides second = ghosts-room second
+  sides first = ghosts-room c w small size first
+  sides second = ghosts-room c w small size second
 
   pub have-room : HaveRoom c (partsOf c w)
   unfolding partsOf
-  have-room = record { small = small; residents = residents-room; ghosts = sides; lookup = lookup-room }
+  have-room = record { small = small; residents = residents-room c w small size; ghosts = sides; lookup = lookup-room }
