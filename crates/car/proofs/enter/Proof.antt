@@ -1,0 +1,19 @@
+-- `car::enter` meets its contract. Assumes nothing.
+use Rattle.car.proofs.Inserting.{insertLaws}
+use Rattle.car.proofs.enter.Statement.{statement}
+use Rattle.car.proofs.enter.Tie as tie
+
+make-room-requires : tie.Need-make-room-requires
+make-room-requires c κs = search insertLaws
+
+enter-end-requires : tie.Need-enter-end-requires
+enter-end-requires c κs = search insertLaws
+
+same-length : tie.Need-same-length
+same-length c = search insertLaws
+
+returns : tie.Need-returns
+returns c = search insertLaws
+
+pub enter-spec : {M : Type 1} → statement M
+enter-spec = tie.close (tie.spec make-room-requires enter-end-requires same-length returns)

@@ -1,0 +1,26 @@
+-- `car::make_room` meets its contract. Assumes nothing.
+use Rattle.car.proofs.Inserting.{insertLaws}
+use Rattle.car.proofs.make_room.Statement.{statement}
+use Rattle.car.proofs.make_room.Tie as tie
+
+held-requires : tie.Need-held-requires
+held-requires c κs = search insertLaws
+
+same-length : tie.Need-same-length
+same-length c = search insertLaws
+
+returns : tie.Need-returns
+returns c = search insertLaws
+
+replace-requires : tie.Need-replace-requires
+replace-requires c κs = search insertLaws
+
+same-length-2 : tie.Need-same-length-2
+same-length-2 c = search insertLaws
+
+returns-2 : tie.Need-returns-2
+returns-2 c = search insertLaws
+
+pub make-room-spec : {M : Type 1} → statement M
+make-room-spec =
+    tie.close (tie.spec held-requires same-length returns replace-requires same-length-2 returns-2)

@@ -1,0 +1,45 @@
+-- `car::remove` meets its contract. Assumes nothing.
+use Rattle.car.proofs.Laws.{laws}
+use Rattle.car.proofs.remove.Statement.{statement}
+use Rattle.car.proofs.remove.Tie as tie
+
+slot-of-requires : tie.Need-slot-of-requires
+slot-of-requires c κs = search laws
+
+enum-known-slot : tie.Need-enum-known-slot
+enum-known-slot c = search laws
+
+frame-requires : tie.Need-frame-requires
+frame-requires c κs = search laws
+
+remove-requires : tie.Need-remove-requires
+remove-requires c κs = search laws
+
+enum-told : tie.Need-enum-told
+enum-told c = search laws
+
+same-length : tie.Need-same-length
+same-length c = search laws
+
+returns : tie.Need-returns
+returns c = search laws
+
+same-length-2 : tie.Need-same-length-2
+same-length-2 c = search laws
+
+returns-2 : tie.Need-returns-2
+returns-2 c = search laws
+
+pub remove-spec : {M : Type 1} → statement M
+remove-spec =
+    tie.close
+    (tie.spec
+    slot-of-requires
+    enum-known-slot
+    frame-requires
+    remove-requires
+    enum-told
+    same-length
+    returns
+    same-length-2
+    returns-2)

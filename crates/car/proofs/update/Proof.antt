@@ -1,0 +1,23 @@
+-- `car::update` meets its contract. Assumes nothing.
+use Rattle.car.proofs.Updating.{update-slot, updateLaws}
+use Rattle.car.proofs.update.Statement.{statement}
+use Rattle.car.proofs.update.Tie as tie
+
+frame-requires : tie.Need-frame-requires
+frame-requires c κs = search updateLaws
+
+set-frame-requires : tie.Need-set-frame-requires
+set-frame-requires c κs = search updateLaws
+
+set-bit-requires : tie.Need-set-bit-requires
+set-bit-requires c κs = (update-slot _ _ _ _ (c .before .before .before .before .before .before .before .before .pre .0) _ (c .before .before .before .set-frame .ensures), search updateLaws)
+
+same-length : tie.Need-same-length
+same-length c = search updateLaws
+
+returns : tie.Need-returns
+returns c = search updateLaws
+
+pub update-spec : {M : Type 1} → statement M
+update-spec =
+    tie.close (tie.spec frame-requires set-frame-requires set-bit-requires same-length returns)

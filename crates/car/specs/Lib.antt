@@ -1,0 +1,4 @@
+-- The definitions that the contracts of `car` cite. Assumes nothing.
+pub mod Car
+pub mod Replace
+pub mod Insert
