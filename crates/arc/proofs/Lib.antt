@@ -5,4 +5,7 @@ pub mod Calls
 pub mod Trimming
 pub mod Hitting
 pub mod Replacing
+pub mod Entering
+pub mod Updating
+pub mod Whole
 pub mod Laws

@@ -77,7 +77,7 @@ unfolding arcOf
 list-plainly first s = refl
 list-plainly second s = refl
 
-pages-plainly : (l : List Resident) → pages (map plainly l) ≡ pages l
+pub pages-plainly : (l : List Resident) → pages (map plainly l) ≡ pages l
 pages-plainly [] = refl
 pages-plainly (e ∷ l) = ap (λ (k : List ℕ). e .page ∷ k) (pages-plainly l)
 
@@ -86,7 +86,7 @@ unfolding arcOf evictedAt
 evicted-plainly first k s = rw (without-plainly (residentAt k s .page) (s .lists .T1), without-plainly (residentAt k s .page) (s .lists .T2)) refl
 evicted-plainly second k s = rw (without-plainly (residentAt k s .page) (s .lists .T1), without-plainly (residentAt k s .page) (s .lists .T2)) refl
 
-sound-plainly : (s : Car) → Sound (s .lists) → Sound (arcOf s)
+pub sound-plainly : (s : Car) → Sound (s .lists) → Sound (arcOf s)
 unfolding arcOf
 sound-plainly s h = record {
   distinct = λ x. rw (pages-plainly (s .lists .T1), pages-plainly (s .lists .T2)) (h .distinct x);

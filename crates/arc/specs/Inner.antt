@@ -5,9 +5,9 @@ use mathlib.Core.List.{List, [], _∷_}
 use Prim.Native.Nat.{ℕ, _<_, _≤_}
 use lib.ListN.{length, drop}
 use Rattle.rules.specs.State.{Side, first, second}
-use Rattle.rules.specs.Calls.{Call, Question, Ask, Answer, Hit, Miss, Gone, Absent, See, No, Holds, Number, Done}
+use Rattle.rules.specs.Calls.{Call, Question, Ask, Answer, Hit, Miss, New, Old, None, Gone, Absent, See, No, Holds, Number, Done, nobody, out, ghost}
 use Rattle.rules.specs.Arc.{Arc, WellFormed, does}
-use Rattle.area.specs.Area.{kindOf, endAt}
+use Rattle.area.specs.Area.{kindOf, endAt, sideOf}
 use Rattle.area.specs.Stored.{Stored, stateIn, arcOf}
 use Rattle.arc.specs.declared.Got as got
 use Rattle.arc.specs.declared.Got.the-variants.{Hit as GotHit, Miss as GotMiss}
@@ -15,6 +15,8 @@ use Rattle.arc.specs.declared.Seen as seen
 use Rattle.arc.specs.declared.Seen.the-variants.{See as SeenSee, No as SeenNo}
 use Rattle.arc.specs.declared.Gone as gone
 use Rattle.arc.specs.declared.Gone.the-variants.{Frame as GoneFrame, Absent as GoneAbsent}
+use Rattle.arc.specs.declared.Inserted as inserted
+use Rattle.arc.specs.declared.Inserted.the-variants.{New as InsertedNew, Out as InsertedOut, Old as InsertedOld, None as InsertedNone}
 
 -- the state of ARC that an area of capacity c is read as
 abbrev pub arcIn : ℕ → List ℕ → Arc
@@ -50,3 +52,10 @@ ofSeen SeenNo = No
 abbrev pub ofGone : gone.Gone → Answer
 ofGone (GoneFrame f) = Gone f
 ofGone GoneAbsent = Absent
+
+-- the victim's side is 0 where it came from T1 and is recorded in B1, 1 for T2 and B2; it takes one step
+abbrev pub ofInserted : inserted.Inserted → Answer
+ofInserted InsertedNew = New nobody 0
+ofInserted (InsertedOut p f i) = New (out p f (ghost (sideOf i))) 1
+ofInserted (InsertedOld f) = Old f
+ofInserted InsertedNone = None

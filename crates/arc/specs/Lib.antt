@@ -1,3 +1,4 @@
 -- The definitions that the contracts of `arc` cite. Assumes nothing.
 pub mod Inner
 pub mod Inserting
+pub mod Insert

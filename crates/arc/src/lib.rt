@@ -1,8 +1,8 @@
 // ARC (src/policy/arc.rs) over a store. The inner calls: each asks that the area holds a well-formed state of ARC, of capacity c, and
 // leaves one. Answer and state are those of the rules.
 ghost use mathlib.Core.Path.{_≡_};
-ghost use Prim.Native.Nat.{_+_, _<_, _≤_};
-ghost use Rattle.rules.specs.Calls.{Get, Remove, Clear, Cleared, Peek, Contains, Len, Capacity, Target, T1Len, T2Len, B1Len, B2Len, Holds, Number};
+ghost use Prim.Native.Nat.{_+_, _^_, _<_, _≤_};
+ghost use Rattle.rules.specs.Calls.{Get, Insert, Remove, Clear, Cleared, Peek, Contains, Len, Capacity, Target, T1Len, T2Len, B1Len, B2Len, Holds, Number};
 ghost use lib.ListN.{length};
 ghost use Rattle.rules.specs.State.{first, second, inAll};
 ghost use Rattle.rules.specs.Ghosts.{dropOldest};
@@ -10,9 +10,11 @@ ghost use Rattle.rules.specs.Stages.{ghostHit};
 ghost use Rattle.rules.specs.Arc.{trimmed};
 ghost use Rattle.area.specs.Area.{sideOf};
 ghost use Rattle.area.specs.Stored.{Stored};
-ghost use Rattle.store.specs.Store.{HasGhost};
+ghost use Rattle.rules.specs.Calls.{nowhere, ghost as inGhosts};
+ghost use Rattle.store.specs.Store.{HasGhost, IsSlot};
 ghost use Rattle.arc.specs.Inserting.{Stage, Turns, CanReplace, Puts};
-ghost use Rattle.arc.specs.Inner.{arcIn, Good, Did, Says, ofGot, ofSeen, ofGone};
+ghost use Rattle.arc.specs.Inner.{arcIn, Good, Did, Says, ofGot, ofSeen, ofGone, ofInserted};
+ghost use Rattle.arc.specs.Insert.{HasRoom, Makes, CanCome, Admits, Comes, Hits, Enters, Updates};
 
 // A get: the frame, or a miss.
 pub enum Got {
@@ -284,5 +286,98 @@ fn replace(a: &mut [u64], c: usize, b2_hit: bool) -> Victim
         page: o.page,
         frame: o.frame,
         side,
+    }
+}
+
+// An insert: stored without a victim; stored, with the victim, and 0 where it came from T1, 1 where from T2; updated, with the old
+// frame; not stored.
+pub enum Inserted {
+    New,
+    Out { page: u64, frame: u64, side: usize },
+    Old(u64),
+    None,
+}
+
+// Replace if full.
+fn make_room(a: &mut [u64], c: usize, b2_hit: bool) -> Inserted
+    requires { ⌜ HasRoom c (now a) ⌝ }
+    ensures { λ r. ⌜ Makes c (now (a .entry)) (now (a .exit)) «b2_hit» r ⌝ }
+{
+    let n = residents(a, c);
+    if n < c {
+        return Inserted::New;
+    }
+    let v = replace(a, c, b2_hit);
+    Inserted::Out {
+        page: v.page,
+        frame: v.frame,
+        side: v.side,
+    }
+}
+
+// A page that no list has: replace if full; it goes to the front of T1 (j = 0) or T2 (j = 1).
+fn enter(a: &mut [u64], c: usize, j: usize, x: u64, f: u64, b2_hit: bool) -> Inserted
+    requires { ⌜ CanCome c (now a) j x f ⌝ }
+    ensures { λ r. ⌜ Admits c (now (a .entry)) (now (a .exit)) j x f «b2_hit» r ⌝ }
+{
+    let r = make_room(a, c, b2_hit);
+    store::enter_front(a, c, j, x, f, 0);
+    r
+}
+
+// A page that is in no list: T1.
+fn miss(a: &mut [u64], c: usize, x: u64, f: u64) -> Inserted
+    requires { ⌜ Comes c (now a) nowhere x f ⌝ }
+    ensures { λ r. ⌜ Enters c (now (a .entry)) (now (a .exit)) nowhere x f r ⌝ }
+{
+    trim(a, c);
+    enter(a, c, 0, x, f, false)
+}
+
+// A page of B1, or of B2: T2.
+fn back_b1(a: &mut [u64], c: usize, g: usize, x: u64, f: u64) -> Inserted
+    requires { ⌜ Hits c (now a) first g x f ⌝ }
+    ensures { λ r. ⌜ Enters c (now (a .entry)) (now (a .exit)) (inGhosts first) x f r ⌝ }
+{
+    hit_b1(a, c, g, x);
+    enter(a, c, 1, x, f, false)
+}
+
+fn back_b2(a: &mut [u64], c: usize, g: usize, x: u64, f: u64) -> Inserted
+    requires { ⌜ Hits c (now a) second g x f ⌝ }
+    ensures { λ r. ⌜ Enters c (now (a .entry)) (now (a .exit)) (inGhosts second) x f r ⌝ }
+{
+    hit_b2(a, c, g, x);
+    enter(a, c, 1, x, f, true)
+}
+
+// The resident of a slot gets the frame f, and comes to the front of T2. The answer is the old frame.
+fn update(a: &mut [u64], c: usize, slot: usize, f: u64) -> u64
+    requires { ⌜ IsSlot c (now a) slot × (f < 2 ^ 32) ⌝ }
+    ensures { λ r. ⌜ Updates c (now (a .entry)) (now (a .exit)) slot f r ⌝ }
+{
+    let old = store::frame(a, c, slot);
+    store::set_frame(a, c, slot, f);
+    store::to_front(a, c, slot);
+    old
+}
+
+// The page x with the frame f: not stored where c = 0; updated where it is resident; else stored new.
+pub fn inner_insert(a: &mut [u64], c: usize, x: u64, f: u64) -> Inserted
+    requires { ⌜ Good c (now a) × (f < 2 ^ 32) ⌝ }
+    ensures { λ r. ⌜ Did (Insert x f) c (now (a .entry)) (now (a .exit)) (ofInserted r) ⌝ }
+{
+    if c == 0 {
+        return Inserted::None;
+    }
+    let found = store::find(a, c, x);
+    match found {
+        store::Found::Resident(e) => {
+            let old = update(a, c, e, f);
+            Inserted::Old(old)
+        }
+        store::Found::Recent(g) => back_b1(a, c, g, x, f),
+        store::Found::Frequent(g) => back_b2(a, c, g, x, f),
+        store::Found::Nowhere => miss(a, c, x, f),
     }
 }

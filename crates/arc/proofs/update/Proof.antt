@@ -1,0 +1,21 @@
+use Rattle.arc.proofs.Updating.{update-slot, laws}
+use Rattle.arc.proofs.update.Statement.{statement}
+use Rattle.arc.proofs.update.Tie as tie
+
+frame-requires : tie.Need-frame-requires
+frame-requires c κs = search laws
+
+set-frame-requires : tie.Need-set-frame-requires
+set-frame-requires c κs = search laws
+
+to-front-requires : tie.Need-to-front-requires
+to-front-requires c κs = update-slot _ _ _ _ (c .before .before .before .before .before .before .before .before .pre .0) _ (c .before .before .before .set-frame .ensures)
+
+same-length : tie.Need-same-length
+same-length c = search laws
+
+returns : tie.Need-returns
+returns c = search laws
+
+pub update-spec : {M : Type 1} → statement M
+update-spec = tie.close (tie.spec frame-requires set-frame-requires to-front-requires same-length returns)
