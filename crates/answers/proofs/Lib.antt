@@ -1,0 +1,2 @@
+-- The laws of answers. Assumes nothing.
+pub mod Laws

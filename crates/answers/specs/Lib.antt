@@ -1,0 +1,2 @@
+-- The definitions that the contracts on answers cite. Assumes nothing.
+pub mod Answers

@@ -1,0 +1,4 @@
+-- The contracts of the calls, over the policy. Assumes nothing.
+pub mod Policy
+pub mod Inner
+pub mod Outer
