@@ -21,6 +21,8 @@ use Rattle.answers.specs.declared.Place.{Place}
 use Rattle.answers.specs.declared.Place.the-variants as place
 use Rattle.answers.specs.declared.Inserted.{Inserted}
 use Rattle.answers.specs.declared.Inserted.the-variants as inserted
+use Rattle.answers.specs.declared.Reply.{Reply}
+use Rattle.answers.specs.declared.Reply.the-variants as reply
 
 abbrev pub gotIs : Got → Answer
 gotIs (got.Hit f) = rules.Hit f
@@ -63,3 +65,10 @@ insertedIs inserted.Refused = rules.Refused 3
 -- the ghost list of the victims of a list: 0 for T1, any other for T2
 abbrev pub placeOfList : ℕ → rules.Place
 placeOfList i = ghost (cond (eqb i 0) first second)
+
+abbrev pub replyIs : Reply → Answer
+replyIs (reply.Got r) = gotIs r
+replyIs (reply.Inserted r) = insertedIs r
+replyIs (reply.Gone r) = goneIs r
+replyIs reply.Cleared = rules.Cleared
+replyIs (reply.Seen r) = seenIs r

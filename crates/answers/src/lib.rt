@@ -63,6 +63,15 @@ pub enum Inserted {
     Refused,
 }
 
+// What an operation of a trace answers.
+pub enum Reply {
+    Got(Got),
+    Inserted(Inserted),
+    Gone(Gone),
+    Cleared,
+    Seen(Seen),
+}
+
 // The ghost list of the victims of a list: 0 for T1, 1 for T2.
 pub fn recorded_in(list: usize) -> Place
     ensures { λ r. ⌜ placeIs r ≡ placeOfList list ⌝ }
