@@ -1,0 +1,100 @@
+//! vectors DIR: writes the stored cases, DIR/stdin, and what the excerpts answer, DIR/stdout. Every call is compared with the list model on the way. Seeds are fixed.
+use compare::agree::states;
+use compare::cases::{all_short, damaged, fitting, heads, input, long_run, short_run, Calls, Pattern, KINDS, PATTERNS};
+use compare::program::{Case, DIGEST, STATES_MOST, WHOLE};
+use compare::random::Random;
+use std::path::Path;
+
+fn short_cases(cases: &mut Vec<Case>) {
+    let (inserts, gets, removes, all) = (
+        Calls { gets: false, removes: false, others: false },
+        Calls { gets: true, removes: false, others: false },
+        Calls { gets: true, removes: true, others: false },
+        Calls { gets: true, removes: true, others: true },
+    );
+    // capacity, calls, length, pages
+    let table = [
+        (0, all, 2, 1),
+        (1, inserts, 6, 3),
+        (2, inserts, 7, 4),
+        (3, inserts, 7, 5),
+        (1, gets, 4, 3),
+        (2, gets, 5, 3),
+        (3, gets, 5, 4),
+        (2, removes, 4, 3),
+        (3, removes, 4, 3),
+        (1, all, 3, 2),
+        (2, all, 3, 2),
+    ];
+    for (c, calls, length, pages) in table {
+        for operations in all_short(calls, length, pages) {
+            cases.extend(KINDS.map(|kind| Case { mode: WHOLE, input: input(kind, c, &operations) }));
+        }
+    }
+}
+
+fn random_cases(cases: &mut Vec<Case>) {
+    for seed in 1..=80 {
+        let mut random = Random::new(seed);
+        let c = random.choice(&[0, 1, 1, 2, 2, 3, 3, 4, 5, 6, 8, 13]);
+        let operations = short_run(&mut random, c, 40);
+        cases.extend(KINDS.map(|kind| Case { mode: WHOLE, input: input(kind, c, &operations) }));
+    }
+}
+
+fn damaged_cases(cases: &mut Vec<Case>) {
+    cases.extend(heads(STATES_MOST).into_iter().map(|input| Case { mode: DIGEST, input }));
+    for seed in 1001..=1300 {
+        let mut random = Random::new(seed);
+        let c = random.choice(&[0, 1, 2, 3, 5]);
+        let operations = short_run(&mut random, c, 8);
+        let kind = random.choice(&KINDS);
+        let input = damaged(&mut random, &input(kind, c, &operations));
+        cases.push(Case { mode: WHOLE, input });
+    }
+}
+
+fn long_cases(cases: &mut Vec<Case>) {
+    let mut seed = 2000;
+    let mut add = |pattern, c, count, paired| {
+        seed += 1;
+        let operations = long_run(&mut Random::new(seed), pattern, c, count, paired);
+        cases.extend(KINDS.map(|kind| Case { mode: DIGEST, input: fitting(kind, c, &operations) }));
+    };
+    for (i, pattern) in PATTERNS.into_iter().enumerate() {
+        add(pattern, 16, 400, i % 2 == 0);
+        add(pattern, 100, 800, i % 2 == 1);
+    }
+    add(Pattern::Shifting, 256, 2000, true);
+    add(Pattern::Stride64, 257, 2000, false);
+    add(Pattern::Zipf, 1000, 2400, true);
+    add(Pattern::Huge, 1023, 2400, true);
+    add(Pattern::Shifting, STATES_MOST, 6000, false);
+}
+
+fn main() {
+    let dir = std::env::args().nth(1).expect("usage: vectors DIR");
+    let mut cases = vec![];
+    short_cases(&mut cases);
+    random_cases(&mut cases);
+    damaged_cases(&mut cases);
+    let short = cases.len();
+    long_cases(&mut cases);
+    let (mut stdin, mut stdout, mut done) = (vec![], String::new(), 0);
+    for case in &cases {
+        case.write(&mut stdin);
+        match states(case) {
+            Ok((text, operations)) => {
+                stdout.push_str(&text);
+                done += operations;
+            }
+            Err(said) => {
+                eprintln!("vectors: the input {:02x?}: {said}", case.input);
+                std::process::exit(1);
+            }
+        }
+    }
+    std::fs::write(Path::new(&dir).join("stdin"), &stdin).expect("DIR/stdin");
+    std::fs::write(Path::new(&dir).join("stdout"), &stdout).expect("DIR/stdout");
+    println!("vectors: {short} short and {} long cases, {done} operations, {} bytes in and {} out", cases.len() - short, stdin.len(), stdout.len());
+}

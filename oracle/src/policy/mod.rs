@@ -1,0 +1,5 @@
+//! The two policies, and CAR once more with document 01's step.
+pub mod arc;
+pub mod car;
+/// `car` with the step of the target set to 1 in `adapt`, its only difference: `oracle/same` makes it again from `car.rs` and compares.
+pub mod car_step_1;
