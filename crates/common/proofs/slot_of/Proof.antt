@@ -1,7 +1,7 @@
--- `car::slot_of` meets its contract. Assumes nothing.
-use Rattle.car.proofs.Laws.{laws}
-use Rattle.car.proofs.slot_of.Statement.{statement}
-use Rattle.car.proofs.slot_of.Tie as tie
+-- `common::slot_of` meets its contract. Assumes nothing.
+use Rattle.common.proofs.Laws.{laws}
+use Rattle.common.proofs.slot_of.Statement.{statement}
+use Rattle.common.proofs.slot_of.Tie as tie
 
 find-requires : tie.Need-find-requires
 find-requires c κs = search laws
