@@ -1,0 +1,1 @@
+-- ARC's public calls have their contracts from `calls`. Assumes nothing.
