@@ -38,4 +38,4 @@ module _ (P : Policy) (r : Opened) (w : List ℕ) (h : Opens (P .kind) w r) wher
   pub refused-told : r ≡ Refused → (k : Question) → Told P k w (rules.Refused 3)
   refused-told q k = told-refused P k w (opens-as Refused q)
 
-pub ruleset publicLaws = (opened-good, opened-call, opened-told, refused-call, refused-told, making, arc-exact, car-exact, needs)
+pub ruleset laws = (opened-good, opened-call, opened-told, refused-call, refused-told, making, arc-exact, car-exact, needs)

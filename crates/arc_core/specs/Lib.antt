@@ -1,1 +1,0 @@
--- ARC's public calls have their contracts from `calls`. Assumes nothing.
