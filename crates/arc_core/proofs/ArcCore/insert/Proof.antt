@@ -1,41 +1,7 @@
--- `arc_core::ArcCore::insert` meets its contract. Assumes nothing.
+-- `arc_core::ArcCore::insert` meets its contract: by the laws of `opening`, at each need in the order of the code. Assumes nothing.
 use Rattle.opening.proofs.Public.{laws}
 use Rattle.arc_core.proofs.ArcCore.insert.Statement.{statement}
 use Rattle.arc_core.proofs.ArcCore.insert.Tie as tie
 
-open-requires : tie.Need-open-requires
-open-requires c κs = search laws
-
-enum-known-c : tie.Need-enum-known-c
-enum-known-c c = search laws
-
-insert-requires : tie.Need-insert-requires
-insert-requires c κs = search laws
-
-enum-told : tie.Need-enum-told
-enum-told c = search laws
-
-same-length : tie.Need-same-length
-same-length c = search laws
-
-returns : tie.Need-returns
-returns c = search laws
-
-same-length-2 : tie.Need-same-length-2
-same-length-2 c = search laws
-
-returns-2 : tie.Need-returns-2
-returns-2 c = search laws
-
 pub insert-spec : {M : Type 1} → statement M
-insert-spec =
-    tie.close
-    (tie.spec
-    open-requires
-    enum-known-c
-    insert-requires
-    enum-told
-    same-length
-    returns
-    same-length-2
-    returns-2)
+insert-spec = tie.close (tie.spec (λ c κs. search laws) (λ c. search laws) (λ c κs. search laws) (λ c. search laws) (λ c. search laws) (λ c. search laws) (λ c. search laws) (λ c. search laws))

@@ -1,25 +1,7 @@
--- `arc_core::ArcCore::len` meets its contract. Assumes nothing.
+-- `arc_core::ArcCore::len` meets its contract: by the laws of `opening`, at each need in the order of the code. Assumes nothing.
 use Rattle.opening.proofs.Public.{laws}
 use Rattle.arc_core.proofs.ArcCore.len.Statement.{statement}
 use Rattle.arc_core.proofs.ArcCore.len.Tie as tie
 
-open-requires : tie.Need-open-requires
-open-requires c κs = search laws
-
-enum-known-c : tie.Need-enum-known-c
-enum-known-c c = search laws
-
-len-requires : tie.Need-len-requires
-len-requires c κs = search laws
-
-enum-told : tie.Need-enum-told
-enum-told c = search laws
-
-returns : tie.Need-returns
-returns c = search laws
-
-returns-2 : tie.Need-returns-2
-returns-2 c = search laws
-
 pub len-spec : {M : Type 1} → statement M
-len-spec = tie.close (tie.spec open-requires enum-known-c len-requires enum-told returns returns-2)
+len-spec = tie.close (tie.spec (λ c κs. search laws) (λ c. search laws) (λ c κs. search laws) (λ c. search laws) (λ c. search laws) (λ c. search laws))

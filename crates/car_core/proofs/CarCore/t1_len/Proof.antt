@@ -1,26 +1,7 @@
--- `car_core::CarCore::t1_len` meets its contract. Assumes nothing.
+-- `car_core::CarCore::t1_len` meets its contract: by the laws of `opening`, at each need in the order of the code. Assumes nothing.
 use Rattle.opening.proofs.Public.{laws}
 use Rattle.car_core.proofs.CarCore.t1_len.Statement.{statement}
 use Rattle.car_core.proofs.CarCore.t1_len.Tie as tie
 
-open-requires : tie.Need-open-requires
-open-requires c κs = search laws
-
-enum-known-c : tie.Need-enum-known-c
-enum-known-c c = search laws
-
-t1-len-requires : tie.Need-t1-len-requires
-t1-len-requires c κs = search laws
-
-enum-told : tie.Need-enum-told
-enum-told c = search laws
-
-returns : tie.Need-returns
-returns c = search laws
-
-returns-2 : tie.Need-returns-2
-returns-2 c = search laws
-
 pub t1-len-spec : {M : Type 1} → statement M
-t1-len-spec =
-    tie.close (tie.spec open-requires enum-known-c t1-len-requires enum-told returns returns-2)
+t1-len-spec = tie.close (tie.spec (λ c κs. search laws) (λ c. search laws) (λ c κs. search laws) (λ c. search laws) (λ c. search laws) (λ c. search laws))
