@@ -3,7 +3,7 @@ pub mod Capacity
 pub mod Accepting
 pub mod Exact
 pub mod Reading
-pub mod Same
+pub mod Equal
 pub mod Passing
 pub mod Outcomes
 pub mod Refusing
