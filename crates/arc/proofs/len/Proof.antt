@@ -1,6 +1,6 @@
 use Rattle.arc.proofs.Laws.{laws}
-use Rattle.arc.proofs.inner_len.Statement.{statement}
-use Rattle.arc.proofs.inner_len.Tie as tie
+use Rattle.arc.proofs.len.Statement.{statement}
+use Rattle.arc.proofs.len.Tie as tie
 
 listed-requires : tie.Need-listed-requires
 listed-requires c κs = search laws
@@ -14,5 +14,5 @@ add-result c = search laws
 returns : tie.Need-returns
 returns c = search laws
 
-pub inner-len-spec : {M : Type 1} → statement M
-inner-len-spec = tie.close (tie.spec listed-requires listed-requires-2 add-result returns)
+pub len-spec : {M : Type 1} → statement M
+len-spec = tie.close (tie.spec listed-requires listed-requires-2 add-result returns)

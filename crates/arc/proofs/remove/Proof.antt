@@ -1,6 +1,6 @@
 use Rattle.arc.proofs.Laws.{laws}
-use Rattle.arc.proofs.inner_remove.Statement.{statement}
-use Rattle.arc.proofs.inner_remove.Tie as tie
+use Rattle.arc.proofs.remove.Statement.{statement}
+use Rattle.arc.proofs.remove.Tie as tie
 
 find-requires : tie.Need-find-requires
 find-requires c κs = search laws
@@ -47,8 +47,8 @@ same-length-4 c = search laws
 returns-4 : tie.Need-returns-4
 returns-4 c = search laws
 
-pub inner-remove-spec : {M : Type 1} → statement M
-inner-remove-spec =
+pub remove-spec : {M : Type 1} → statement M
+remove-spec =
     tie.close
     (tie.spec
     find-requires

@@ -1,6 +1,6 @@
 use Rattle.arc.proofs.Whole.{laws}
-use Rattle.arc.proofs.inner_insert.Statement.{statement}
-use Rattle.arc.proofs.inner_insert.Tie as tie
+use Rattle.arc.proofs.insert.Statement.{statement}
+use Rattle.arc.proofs.insert.Tie as tie
 
 returns : tie.Need-returns
 returns c = search laws
@@ -56,5 +56,5 @@ same-length-4 c = search laws
 returns-5 : tie.Need-returns-5
 returns-5 c = search laws
 
-pub inner-insert-spec : {M : Type 1} → statement M
-inner-insert-spec = tie.close (tie.spec returns find-requires enum-known-found update-requires enum-known-found-2 back-b1-requires enum-known-found-3 back-b2-requires enum-told miss-requires same-length returns-2 same-length-2 returns-3 same-length-3 returns-4 same-length-4 returns-5)
+pub insert-spec : {M : Type 1} → statement M
+insert-spec = tie.close (tie.spec returns find-requires enum-known-found update-requires enum-known-found-2 back-b1-requires enum-known-found-3 back-b2-requires enum-told miss-requires same-length returns-2 same-length-2 returns-3 same-length-3 returns-4 same-length-4 returns-5)

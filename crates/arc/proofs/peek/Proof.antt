@@ -1,12 +1,15 @@
 use Rattle.arc.proofs.Laws.{laws}
-use Rattle.arc.proofs.inner_contains.Statement.{statement}
-use Rattle.arc.proofs.inner_contains.Tie as tie
+use Rattle.arc.proofs.peek.Statement.{statement}
+use Rattle.arc.proofs.peek.Tie as tie
 
 find-requires : tie.Need-find-requires
 find-requires c κs = search laws
 
 enum-known-e : tie.Need-enum-known-e
 enum-known-e c = search laws
+
+frame-requires : tie.Need-frame-requires
+frame-requires c κs = search laws
 
 enum-known-g : tie.Need-enum-known-g
 enum-known-g c = search laws
@@ -29,12 +32,13 @@ returns-3 c = search laws
 returns-4 : tie.Need-returns-4
 returns-4 c = search laws
 
-pub inner-contains-spec : {M : Type 1} → statement M
-inner-contains-spec =
+pub peek-spec : {M : Type 1} → statement M
+peek-spec =
     tie.close
     (tie.spec
     find-requires
     enum-known-e
+    frame-requires
     enum-known-g
     enum-known-g-2
     enum-told
