@@ -115,14 +115,15 @@ fn told(path: &[Operation]) -> String {
     told.collect::<Vec<_>>().join(", ")
 }
 
-/// All sequences of calls up to a length, at one capacity: the first that shows another state, and the first that shows another line.
+/// All sequences of calls at one capacity, as long as the two are alike, and up to a length once they are not: the first that shows another state, and the first that shows another line.
 fn search(c: usize, longest: usize) -> [Option<Vec<Operation>>; 2] {
-    let mut seen = HashSet::new();
     let mut now = vec![(Both::new(c), vec![])];
-    let mut found = [None, None];
-    for _ in 0..longest {
+    let mut seen = HashSet::from([name(&now[0].0)]);
+    let (mut found, mut alike) = ([None, None], 0);
+    while !now.is_empty() {
         let mut next = vec![];
         for (both, path) in &now {
+            alike += usize::from(both.equal());
             for operation in calls(both, path) {
                 let mut after: Both = both.clone();
                 let (_, _, differ) = after.call(operation);
@@ -131,17 +132,17 @@ fn search(c: usize, longest: usize) -> [Option<Vec<Operation>>; 2] {
                 if differ != Differ::Nowhere && found[0].is_none() {
                     found[0] = Some(longer.clone());
                 }
-                if differ == Differ::InLine && found[1].is_none() {
+                if differ == Differ::InLine && found[1].is_none() && longer.len() <= longest {
                     found[1] = Some(longer.clone());
                 }
-                if seen.insert(name(&after)) {
+                if (after.equal() || longer.len() < longest) && seen.insert(name(&after)) {
                     next.push((after, longer));
                 }
             }
         }
         now = next;
     }
-    println!("expected: capacity {c}: {} pairs of states, all that {longest} calls reach", seen.len());
+    println!("expected: capacity {c}: {alike} states that both reach in step; no call from them but the known one tells the two apart");
     found
 }
 
@@ -179,7 +180,8 @@ fn random_runs(seed: u64, count: u64) {
     let (mut differing, mut calls) = (0, 0);
     for i in 0..count {
         let mut random = Random::new(seed.wrapping_add(i));
-        let c = 1 + random.below(random.clone().choice(&[4, 16, 64, 256])) as usize;
+        let most = random.choice(&[4, 16, 64, 256]);
+        let c = 1 + random.below(most) as usize;
         let pattern = random.choice(&PATTERNS);
         let paired = random.below(2) == 0;
         let mut both = Both::new(c);
@@ -196,17 +198,18 @@ fn random_runs(seed: u64, count: u64) {
 fn main() {
     let fresh = SystemTime::now().duration_since(UNIX_EPOCH).expect("the clock").as_nanos() as u64 % 1_000_000_000_000;
     let seed = std::env::args().nth(1).map_or(fresh, |word| word.parse().expect("usage: expected [SEED]"));
-    let found: Vec<_> = [(1, 8), (2, 8), (3, 7), (4, 6)].map(|(c, longest)| (c, search(c, longest))).into();
-    for (c, [state, line]) in &found {
-        for (what, path) in [("state", state), ("line", line)] {
+    for c in 1..=3 {
+        let found = search(c, 8);
+        for (what, path) in ["state", "line"].into_iter().zip(&found) {
             if let Some(path) = path {
                 println!("expected: capacity {c}: another {what} first after {} calls: {}", path.len(), told(path));
             }
         }
-    }
-    let lengths: Vec<_> = found.iter().flat_map(|(c, [state, line])| [(*c, state), (*c, line)]).map(|(c, path)| (c, path.as_ref().map(Vec::len))).collect();
-    if lengths != [(1, None), (1, None), (2, Some(7)), (2, Some(8)), (3, None), (3, None), (4, None), (4, None)] {
-        failed(format!("the shortest inputs are not those of docs/DIFFERENCES.md: {lengths:?}"));
+        let lengths = found.map(|path| path.map_or(usize::MAX, |path| path.len()));
+        let right = if c == 2 { lengths == [7, 8] } else { lengths[0] > 7 && lengths[1] > 8 };
+        if !right {
+            failed("the shortest inputs are not those of docs/DIFFERENCES.md".to_string());
+        }
     }
     named();
     random_runs(seed, 300);
