@@ -1,11 +1,12 @@
 //! The excerpts and the list model in step: every answer, step count and whole state is compared, and the text that is written is the excerpts'.
-use crate::calls::{Cache, Counts};
+use crate::calls::{Cache, Called, Counts, ARC, CAR};
 use crate::model::{Model, Step};
-use crate::program::{head, put_call, put_end, run, Case, Ended, Head, REPLAY_MOST, STATES_MOST};
+use crate::program::{head, put_call, put_end, run, Case, Ended, REPLAY_MOST, STATES_MOST};
 use crate::rust::{side_of, Rust, Side};
 use crate::trace::Operation;
 
-/// Two caches that should be one, and what they did so far.
+/// The Rust and its list model, two caches that should be one, and what they did so far.
+#[derive(Clone)]
 pub struct Pair {
     pub rust: Rust,
     model: Model,
@@ -14,12 +15,13 @@ pub struct Pair {
 }
 
 impl Pair {
-    pub fn new(side: Side, head: Head) -> Pair {
+    pub fn new(side: Side, c: usize) -> Pair {
+        let kind = if side == Side::Arc { ARC } else { CAR };
         let step = if side == Side::CarExcerpt { Step::Quotient } else { Step::One };
-        Pair { rust: Rust::new(side, head.c), model: Model::new(head.kind, head.c, step), counts: Counts::default(), done: 0 }
+        Pair { rust: Rust::new(side, c), model: Model::new(kind, c, step), counts: Counts::default(), done: 0 }
     }
 
-    pub fn call(&mut self, operation: Operation) -> Result<crate::calls::Called, String> {
+    pub fn call(&mut self, operation: Operation) -> Result<Called, String> {
         let (called, wanted) = (self.rust.call(operation), self.model.call(operation));
         if called != wanted || self.rust.state() != self.model.state() {
             return Err(format!(
@@ -53,7 +55,7 @@ pub fn states(case: &Case) -> Result<(String, u64), String> {
         Ok(head) => head,
         Err(line) => return Ok((format!("{line}\n"), 0)),
     };
-    let mut pair = Pair::new(side_of(head.kind), head);
+    let mut pair = Pair::new(side_of(head.kind), head.c);
     let mut out = String::new();
     let ended = run(&case.input, head.at, |operation| {
         let called = pair.call(operation)?;
@@ -70,7 +72,7 @@ pub fn replay(input: &[u8]) -> Result<(String, u64), String> {
         Ok(head) => head,
         Err(line) => return Ok((format!("{line}\n"), 0)),
     };
-    let mut pair = Pair::new(side_of(head.kind), head);
+    let mut pair = Pair::new(side_of(head.kind), head.c);
     let mut out = String::new();
     let ended: Ended = run(input, head.at, |operation| {
         out.push_str(&format!("{}\n", pair.call(operation)?.answer));

@@ -8,4 +8,5 @@ pub mod program;
 pub mod random;
 pub mod rust;
 pub mod state;
+pub mod tour;
 pub mod trace;

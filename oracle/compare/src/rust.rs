@@ -16,6 +16,7 @@ trait Excerpt {
     /// The counts of the Rust's metrics; they do not know of removals.
     fn counts(&self) -> Counts;
     fn check(&self);
+    fn copy(&self) -> Box<dyn Excerpt>;
 }
 
 impl Excerpt for arc::ArcCore<u64, u32> {
@@ -45,6 +46,10 @@ impl Excerpt for arc::ArcCore<u64, u32> {
 
     fn check(&self) {
         self.debug_validate_invariants();
+    }
+
+    fn copy(&self) -> Box<dyn Excerpt> {
+        Box::new(self.clone())
     }
 }
 
@@ -85,6 +90,10 @@ macro_rules! car_excerpt {
             fn check(&self) {
                 self.debug_validate_invariants();
             }
+
+            fn copy(&self) -> Box<dyn Excerpt> {
+                Box::new(self.clone())
+            }
         }
     };
 }
@@ -115,6 +124,12 @@ pub struct Rust {
     /// The state after the last call.
     now: State,
     removals: u64,
+}
+
+impl Clone for Rust {
+    fn clone(&self) -> Rust {
+        Rust { excerpt: self.excerpt.copy(), now: self.now.clone(), removals: self.removals }
+    }
 }
 
 impl Rust {

@@ -1,8 +1,11 @@
 //! vectors DIR: writes the stored cases, DIR/stdin, and what the excerpts answer, DIR/stdout. Every call is compared with the list model on the way. Seeds are fixed.
 use compare::agree::states;
+use compare::calls::{ARC, CAR};
 use compare::cases::{all_short, damaged, fitting, heads, input, long_run, short_run, Calls, Pattern, KINDS, PATTERNS};
 use compare::program::{Case, DIGEST, STATES_MOST, WHOLE};
 use compare::random::Random;
+use compare::rust::Side;
+use compare::tour::tours;
 use std::path::Path;
 
 fn short_cases(cases: &mut Vec<Case>) {
@@ -15,9 +18,9 @@ fn short_cases(cases: &mut Vec<Case>) {
     // capacity, calls, length, pages
     let table = [
         (0, all, 2, 1),
-        (1, inserts, 6, 3),
-        (2, inserts, 7, 4),
-        (3, inserts, 7, 5),
+        (1, inserts, 5, 3),
+        (2, inserts, 6, 4),
+        (3, inserts, 6, 5),
         (1, gets, 4, 3),
         (2, gets, 5, 3),
         (3, gets, 5, 4),
@@ -72,6 +75,22 @@ fn long_cases(cases: &mut Vec<Case>) {
     add(Pattern::Shifting, STATES_MOST, 6000, false);
 }
 
+/// Every call from every state that calls reach, at the smallest capacities.
+fn tour_cases(cases: &mut Vec<Case>) -> Result<(), String> {
+    for (side, kind, c, mode) in [
+        (Side::Arc, ARC, 1, WHOLE),
+        (Side::Arc, ARC, 2, WHOLE),
+        (Side::Arc, ARC, 3, DIGEST),
+        (Side::CarStep1, CAR, 1, WHOLE),
+        (Side::CarStep1, CAR, 2, DIGEST),
+    ] {
+        for operations in tours(side, c, 2000)? {
+            cases.push(Case { mode, input: input(kind, c, &operations) });
+        }
+    }
+    Ok(())
+}
+
 fn main() {
     let dir = std::env::args().nth(1).expect("usage: vectors DIR");
     let mut cases = vec![];
@@ -80,6 +99,11 @@ fn main() {
     damaged_cases(&mut cases);
     let short = cases.len();
     long_cases(&mut cases);
+    let long = cases.len() - short;
+    tour_cases(&mut cases).unwrap_or_else(|said| {
+        eprintln!("vectors: {said}");
+        std::process::exit(1);
+    });
     let (mut stdin, mut stdout, mut done) = (vec![], String::new(), 0);
     for case in &cases {
         case.write(&mut stdin);
@@ -96,5 +120,6 @@ fn main() {
     }
     std::fs::write(Path::new(&dir).join("stdin"), &stdin).expect("DIR/stdin");
     std::fs::write(Path::new(&dir).join("stdout"), &stdout).expect("DIR/stdout");
-    println!("vectors: {short} short and {} long cases, {done} operations, {} bytes in and {} out", cases.len() - short, stdin.len(), stdout.len());
+    let tours = cases.len() - short - long;
+    println!("vectors: {short} short and {long} long cases and {tours} tours, {done} operations, {} bytes in and {} out", stdin.len(), stdout.len());
 }
