@@ -1,16 +1,15 @@
 -- A page that is no resident comes, over the policy. In order: what was found; room; the page is nowhere; the entry. Assumes nothing.
 use mathlib.Core.Path.{_≡_, refl, ap, _∙_}
-use mathlib.Core.Bool.{Bool, true, false}
+use mathlib.Core.Bool.{true, false}
 use mathlib.Core.Option.{Option, some, none}
 use mathlib.Core.List.{List, [], _++_}
 use Prim.Native.Nat.{ℕ, zero, suc, _+_, _<_, _≤_}
 use native.Mathlib.Omega.{arith}
 use lib.Dec.{eqb}
-use lib.ListN.{length}
 use borrow.Author.Tests.{le-ltb, lt-leb, le-leb}
 use Rattle.rules.specs.Lists.{times}
-use Rattle.rules.specs.State.{Side, Lists, residents, resident, seen, full}
-use Rattle.rules.specs.Calls.{Place, ghost, nowhere, nobody, New, Replaced, replaced, steps}
+use Rattle.rules.specs.State.{Lists, residents, resident, seen, full}
+use Rattle.rules.specs.Calls.{Place, nowhere, nobody, New, Replaced, replaced, steps}
 use Rattle.rules.specs.Stages.{placeOf, isB2}
 use Rattle.rules.specs.Car.{Car, Clocked, Resident}
 use Rattle.rules.proofs.ListLaws.{found-times, times-pages-append}
@@ -27,7 +26,7 @@ use Rattle.calls.specs.Policy.{Policy, stateOf}
 use Rattle.common.specs.Common.{hitAt, HasResident}
 use Rattle.common.specs.Stages.{HasRoom, CanCome, Comes, Hits, entered, Stage, Gives, Makes}
 use Rattle.common.proofs.Finding.{state-c, obeys, free-slot, found-as}
-use Rattle.common.proofs.Staging.{stays, as-stage, then-staged}
+use Rattle.common.proofs.Staging.{stays}
 
 -- ---- what `find` answered
 module _ (c : ℕ) (w : List ℕ) (s : Stored c w) (x : ℕ) (hc : c ≡ 0 → ⊥) (r : Found) (h : FoundIs c w x r) where
