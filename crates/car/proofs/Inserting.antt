@@ -47,7 +47,7 @@ enter-admits c w v hit r m j x f u l = enter-gives carPolicy (made hit (stateIn 
 
 -- ---- the miss
 module _ (c : ℕ) (w : List ℕ) (x : ℕ) (h : Comes c w nowhere x) where
-  pub miss-can : CanCome c w 0 x
+  pub miss-can : (j : ℕ) → j < 2 → CanCome c w j x
   miss-can = can-come c w w x h (h .can .stored) (omega arith)
 
   pub miss-gives : (f : ℕ) (v : List ℕ) (r : Inserted) → Gives carPolicy (entered (admitted (sideOf 0) x f) (made false (stateIn c w))) c w v r → Gives carPolicy (insertAt nowhere x f (stateIn c w)) c w v r

@@ -98,8 +98,8 @@ absent-place x s h = rw (le-ltb 0 (times x (s .B1)) (omega arith), le-ltb 0 (tim
 pub comes-absent : (c : ℕ) (w : List ℕ) (x : ℕ) → Comes c w nowhere x → seen x (stateIn c w .lists) ≡ 0
 comes-absent c w x h = ready-none x (stateIn c w .lists) (h .place) (h .fresh) (obeys c w (h .can .stored) .sound) .absent
 
-pub can-come : (c : ℕ) (w v : List ℕ) (x : ℕ) → Comes c w nowhere x → Stored c v → seen x (stateIn c v .lists) ≤ seen x (stateIn c w .lists) → CanCome c v 0 x
-can-come c w v x h s l = record { can = record { stored = s; some = h .can .some }; side = omega arith; absent = omega (arith, comes-absent c w x h) }
+pub can-come : (c : ℕ) (w v : List ℕ) (x : ℕ) → Comes c w nowhere x → Stored c v → seen x (stateIn c v .lists) ≤ seen x (stateIn c w .lists) → (j : ℕ) → j < 2 → CanCome c v j x
+can-come c w v x h s l j b = record { can = record { stored = s; some = h .can .some }; side = b; absent = omega (arith, comes-absent c w x h) }
 
 -- a ghost hit
 module _ (c : ℕ) (w : List ℕ) (i g x : ℕ) (h : Hits c w i g x) where
@@ -114,11 +114,11 @@ module _ (c : ℕ) (w : List ℕ) (i g x : ℕ) (h : Hits c w i g x) where
   pub hit-b2 : eqb i 1 ≡ isB2 (sideOf i)
   hit-b2 = is-b2 i (h .side)
 
-  pub hit-can : (v : List ℕ) → Left c w v (hitAt (sideOf i) x (stateIn c w)) → CanCome c v 1 x
-  hit-can v l =
+  pub hit-can : (v : List ℕ) → Left c w v (hitAt (sideOf i) x (stateIn c w)) → (j : ℕ) → j < 2 → CanCome c v j x
+  hit-can v l j b =
       record {
         can = record { stored = l .stored; some = h .comes .can .some };
-        side = omega arith;
+        side = b;
         absent = ap (λ (s : Car). seen x (s .lists)) (l .reads) ∙ ready x (stateIn c w .lists) (sideOf i) (h .comes .place) (h .comes .fresh) (obeys c w (h .cell .stored) .sound) .0 .absent;
       }
 
