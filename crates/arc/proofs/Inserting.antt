@@ -59,7 +59,7 @@ unfolding trimmed
 trimmed-fewer x s = trim-fewer (leb (s .c) (length (s .T1) + length (s .B1))) (leb (2 * s .c) (inAll s)) x s
 
 module _ (c : ℕ) (w : List ℕ) (x : ℕ) (h : Comes c w nowhere x) (v : List ℕ) (l : Stage arcPolicy c w v (trimmed (arcIn c w))) where
-  pub miss-can : CanCome c v 0 x
+  pub miss-can : (j : ℕ) → j < 2 → CanCome c v j x
   miss-can = can-come c w v x h (l .stored) (omega (arith, trimmed-fewer x (arcIn c w), ap (seen x) (l .reads), seen-plainly x (stateIn c w), seen-plainly x (stateIn c v)))
 
   pub miss-gives : (f : ℕ) (u : List ℕ) (r : Inserted) → Gives arcPolicy (entered (admitted (sideOf 0) x f) (made false (arcIn c v))) c v u r → Gives arcPolicy (insertAt nowhere x f (arcIn c w)) c w u r

@@ -6,7 +6,7 @@ use mathlib.Core.Option.{Option, some, none}
 use mathlib.Core.List.{List, [], _∷_, _++_, map}
 use Prim.Native.Nat.{ℕ}
 use lib.Dec.{eqb}
-use lib.ListN.{length, length-map}
+use lib.ListN.{length-map}
 use Rattle.rules.specs.Lists.{last}
 use Rattle.rules.specs.State.{Entry, pages, found, without, Side, first, second, list, resident, residents, leaves, seen, full, Sound}
 use Rattle.rules.specs.Calls.{Question, Peek, Contains, Len, Capacity, Target, T1Len, T2Len, B1Len, B2Len, Listing, ghost, seenFrame, isThere, Holds, asked}

@@ -3,17 +3,16 @@ use mathlib.Core.Path.{_≡_, refl, sym, ap, _∙_}
 use mathlib.Core.Bool.{Bool}
 use mathlib.Core.Option.{Option, some, none}
 use mathlib.Core.List.{List, [], _∷_}
-use Prim.Native.Nat.{ℕ, _+_, _<_, _≤_}
+use Prim.Native.Nat.{ℕ, _+_, _≤_}
 use native.Mathlib.Omega.{arith}
 use lib.ListN.{length}
 use borrow.Author.Needs.{needs}
 use Rattle.rules.specs.Lists.{dropLast, last}
-use Rattle.rules.specs.State.{Entry, Side, list, setList, leaves, residents, seen, Sound}
-use Rattle.rules.specs.Calls.{New, ghost, out, Replaced, replaced, steps}
+use Rattle.rules.specs.State.{Entry, Side, list, setList, residents, seen, Sound}
+use Rattle.rules.specs.Calls.{ghost, out, Replaced, replaced}
 use Rattle.rules.specs.Ghosts.{recordIn}
 use Rattle.rules.specs.Stages.{turn}
 use Rattle.rules.specs.Arc.{Arc, Plain, putOut, replace}
-use Rattle.rules.specs.Car.{Car}
 use Rattle.rules.proofs.ListLaws.{no-last, last-plus}
 use Rattle.rules.proofs.StateLaws.{Freed, put-out, turn-some}
 use Rattle.parts.specs.States.{residentAt, evictedAt}

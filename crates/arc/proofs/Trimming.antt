@@ -22,7 +22,7 @@ use Rattle.common.specs.Stages.{Stage}
 use Rattle.common.proofs.Finding.{state-c, obeys}
 use Rattle.common.proofs.Staging.{staged, stays, as-stage}
 use Rattle.arc.specs.Insert.{arcIn}
-use Rattle.arc.proofs.Plain.{residents-plainly, dropped-plainly}
+use Rattle.arc.proofs.Plain.{dropped-plainly}
 
 no-oldest : (l : List ℕ) → length l ≡ 0 → dropLast l ≡ l
 no-oldest [] q = refl

@@ -1,6 +1,6 @@
 -- The stages of an insert. In order: room; the entry; the miss; the ghost hit; the whole. Assumes nothing.
-use mathlib.Core.Path.{_≡_, refl, sym, ap, _∙_}
-use mathlib.Core.Bool.{Bool, true, false}
+use mathlib.Core.Path.{_≡_, refl, sym, _∙_}
+use mathlib.Core.Bool.{Bool, false}
 use mathlib.Core.List.{List, _++_}
 use Prim.Native.Nat.{ℕ, _^_, _<_, _≤_}
 use native.Mathlib.Omega.{arith}
@@ -10,11 +10,11 @@ use borrow.Author.Tests.{ne-eqb}
 use Rattle.rules.specs.State.{residents}
 use Rattle.rules.specs.Calls.{Insert, Place, ghost, nowhere}
 use Rattle.rules.specs.Stages.{isB2}
-use Rattle.rules.specs.Car.{Car, replace, missed, roomFor, admitted, insertAt, inserted, does}
+use Rattle.rules.specs.Car.{replace, missed, roomFor, admitted, insertAt, inserted, does}
 use Rattle.rules.proofs.ListLaws.{found-page}
 use Rattle.parts.specs.States.{residentAt, enteredAtEnd, newResident}
 use Rattle.area.specs.Area.{sideOf}
-use Rattle.area.specs.Stored.{Stored, stateIn, Left}
+use Rattle.area.specs.Stored.{stateIn, Left}
 use Rattle.store.specs.Store.{FoundIs}
 use Rattle.store.specs.declared.Found.{Found}
 use Rattle.store.specs.declared.Found.the-variants.{Resident, Recent, Frequent, Nowhere}
@@ -47,7 +47,7 @@ enter-admits c w v hit r m j x f u l = enter-gives carPolicy (made hit (stateIn 
 
 -- ---- the miss
 module _ (c : ℕ) (w : List ℕ) (x : ℕ) (h : Comes c w nowhere x) where
-  pub miss-can : CanCome c w 0 x
+  pub miss-can : (j : ℕ) → j < 2 → CanCome c w j x
   miss-can = can-come c w w x h (h .can .stored) (omega arith)
 
   pub miss-gives : (f : ℕ) (v : List ℕ) (r : Inserted) → Gives carPolicy (entered (admitted (sideOf 0) x f) (made false (stateIn c w))) c w v r → Gives carPolicy (insertAt nowhere x f (stateIn c w)) c w v r

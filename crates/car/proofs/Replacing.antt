@@ -10,7 +10,7 @@ use Rattle.rules.specs.Lists.{one}
 use Rattle.rules.specs.State.{Side, second, list, setList, residents, leaves, Lists}
 use Rattle.rules.specs.Calls.{Victim, out, ghost, New, Replaced, steps}
 use Rattle.rules.specs.Ghosts.{recordIn}
-use Rattle.rules.specs.Car.{Resident, Clocked, Car, car, withBit, marks, referenced, atEnd, Hand, at, handOf, hand, passed, evicted, stepThen, replace}
+use Rattle.rules.specs.Car.{Resident, Clocked, Car, car, withBit, marks, referenced, atEnd, at, handOf, hand, passed, evicted, stepThen, replace}
 use Rattle.rules.proofs.Sweep.{pass-law, replace-swept}
 use Rattle.rules.proofs.Trail.{replace-passes, replace-evicts}
 use Rattle.parts.specs.Parts.{stateOf}

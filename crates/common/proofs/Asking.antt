@@ -2,7 +2,7 @@
 use mathlib.Core.Path.{_≡_, refl, sym, _∙_}
 use mathlib.Core.Bool.{true, false}
 use mathlib.Core.List.{List}
-use Prim.Native.Nat.{ℕ, _+_}
+use Prim.Native.Nat.{ℕ}
 use lib.ListN.{length}
 use Rattle.rules.specs.State.{list, ghosts, residents}
 use Rattle.rules.specs.Calls.{Question, Peek, Contains, Len, Capacity, Target, T1Len, T2Len, B1Len, B2Len, Answer, Holds, Number, asked}

@@ -1,16 +1,15 @@
 -- A page that is no resident comes, over the policy. In order: what was found; room; the page is nowhere; the entry. Assumes nothing.
 use mathlib.Core.Path.{_≡_, refl, ap, _∙_}
-use mathlib.Core.Bool.{Bool, true, false}
+use mathlib.Core.Bool.{true, false}
 use mathlib.Core.Option.{Option, some, none}
 use mathlib.Core.List.{List, [], _++_}
 use Prim.Native.Nat.{ℕ, zero, suc, _+_, _<_, _≤_}
 use native.Mathlib.Omega.{arith}
 use lib.Dec.{eqb}
-use lib.ListN.{length}
 use borrow.Author.Tests.{le-ltb, lt-leb, le-leb}
 use Rattle.rules.specs.Lists.{times}
-use Rattle.rules.specs.State.{Side, Lists, residents, resident, seen, full}
-use Rattle.rules.specs.Calls.{Place, ghost, nowhere, nobody, New, Replaced, replaced, steps}
+use Rattle.rules.specs.State.{Lists, residents, resident, seen, full}
+use Rattle.rules.specs.Calls.{Place, nowhere, nobody, New, Replaced, replaced, steps}
 use Rattle.rules.specs.Stages.{placeOf, isB2}
 use Rattle.rules.specs.Car.{Car, Clocked, Resident}
 use Rattle.rules.proofs.ListLaws.{found-times, times-pages-append}
@@ -27,7 +26,7 @@ use Rattle.calls.specs.Policy.{Policy, stateOf}
 use Rattle.common.specs.Common.{hitAt, HasResident}
 use Rattle.common.specs.Stages.{HasRoom, CanCome, Comes, Hits, entered, Stage, Gives, Makes}
 use Rattle.common.proofs.Finding.{state-c, obeys, free-slot, found-as}
-use Rattle.common.proofs.Staging.{stays, as-stage, then-staged}
+use Rattle.common.proofs.Staging.{stays}
 
 -- ---- what `find` answered
 module _ (c : ℕ) (w : List ℕ) (s : Stored c w) (x : ℕ) (hc : c ≡ 0 → ⊥) (r : Found) (h : FoundIs c w x r) where
@@ -99,8 +98,8 @@ absent-place x s h = rw (le-ltb 0 (times x (s .B1)) (omega arith), le-ltb 0 (tim
 pub comes-absent : (c : ℕ) (w : List ℕ) (x : ℕ) → Comes c w nowhere x → seen x (stateIn c w .lists) ≡ 0
 comes-absent c w x h = ready-none x (stateIn c w .lists) (h .place) (h .fresh) (obeys c w (h .can .stored) .sound) .absent
 
-pub can-come : (c : ℕ) (w v : List ℕ) (x : ℕ) → Comes c w nowhere x → Stored c v → seen x (stateIn c v .lists) ≤ seen x (stateIn c w .lists) → CanCome c v 0 x
-can-come c w v x h s l = record { can = record { stored = s; some = h .can .some }; side = omega arith; absent = omega (arith, comes-absent c w x h) }
+pub can-come : (c : ℕ) (w v : List ℕ) (x : ℕ) → Comes c w nowhere x → Stored c v → seen x (stateIn c v .lists) ≤ seen x (stateIn c w .lists) → (j : ℕ) → j < 2 → CanCome c v j x
+can-come c w v x h s l j b = record { can = record { stored = s; some = h .can .some }; side = b; absent = omega (arith, comes-absent c w x h) }
 
 -- a ghost hit
 module _ (c : ℕ) (w : List ℕ) (i g x : ℕ) (h : Hits c w i g x) where
@@ -115,11 +114,11 @@ module _ (c : ℕ) (w : List ℕ) (i g x : ℕ) (h : Hits c w i g x) where
   pub hit-b2 : eqb i 1 ≡ isB2 (sideOf i)
   hit-b2 = is-b2 i (h .side)
 
-  pub hit-can : (v : List ℕ) → Left c w v (hitAt (sideOf i) x (stateIn c w)) → CanCome c v 1 x
-  hit-can v l =
+  pub hit-can : (v : List ℕ) → Left c w v (hitAt (sideOf i) x (stateIn c w)) → (j : ℕ) → j < 2 → CanCome c v j x
+  hit-can v l j b =
       record {
         can = record { stored = l .stored; some = h .comes .can .some };
-        side = omega arith;
+        side = b;
         absent = ap (λ (s : Car). seen x (s .lists)) (l .reads) ∙ ready x (stateIn c w .lists) (sideOf i) (h .comes .place) (h .comes .fresh) (obeys c w (h .cell .stored) .sound) .0 .absent;
       }
 

@@ -5,7 +5,7 @@ use Prim.Native.Nat.{ℕ, _+_, _*_, _^_, _<_, _≤_}
 use native.Mathlib.Omega.{arith}
 use lib.ListN.{length}
 use Rattle.rules.specs.State.{list, residents}
-use Rattle.rules.specs.Car.{Car, Obeys}
+use Rattle.rules.specs.Car.{Obeys}
 use Rattle.rules.proofs.ClosureCar.{slots-left}
 use Rattle.parts.specs.Parts.{stateOf}
 use Rattle.parts.proofs.Reading.{state-obeys}

@@ -4,7 +4,7 @@ use mathlib.Core.List.{List}
 use Prim.Native.Nat.{ℕ}
 use Rattle.rules.specs.Calls.{Done}
 use Rattle.rules.specs.Car.{Car}
-use Rattle.area.specs.Stored.{Stored, stateIn, Left}
+use Rattle.area.specs.Stored.{Stored, Left}
 use Rattle.answers.specs.declared.Inserted.{Inserted}
 use Rattle.calls.specs.Policy.{Policy, stateOf}
 use Rattle.common.specs.Stages.{Stage, Gives}
