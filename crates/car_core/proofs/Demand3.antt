@@ -1,15 +1,15 @@
 -- DEMAND 3 of the code's public calls, from their contracts alone: the sum over any calls, and the replacement of an insert. Assumes nothing.
-use mathlib.Core.Path.{_≡_, refl, sym, subst, ap, _∙_}
+use mathlib.Core.Path.{_≡_, refl, ap, _∙_}
 use mathlib.Core.Bool.{Bool, true, false, false≢true}
-use mathlib.Core.List.{List, []}
+use mathlib.Core.List.{List}
 use mathlib.Core.Logic.{_⊎_, inl, inr}
 use mathlib.Core.Option.{Option, some, none}
-use Prim.Native.Nat.{ℕ, _+_, _<_, _≤_}
+use Prim.Native.Nat.{ℕ, _+_, _≤_}
 use native.Mathlib.Omega.{arith}
 use lib.Dec.{eqb}
 use borrow.Author.Tests.{eqb-false, leb-true, le-leb}
 use Rattle.rules.specs.State.{Side, residents, resident, full}
-use Rattle.rules.specs.Calls.{Call, Insert, Ask, Answer, New, None, Old, Victim, nobody, out, Place, ghost, nowhere, Replaced, steps, replaceIf}
+use Rattle.rules.specs.Calls.{Call, Insert, Ask, Answer, New, Victim, Place, ghost, nowhere, Replaced, steps, replaceIf}
 use Rattle.rules.specs.Counts.{Counts, noCounts, counted, plus, hits, outs}
 use Rattle.rules.specs.Stages.{placeOf, ghostHit, isB2}
 use Rattle.rules.specs.Car as car
@@ -73,13 +73,14 @@ pub demand-3 : (w v : List ℕ) (s : Car) (n : Counts) → Writes 2 w s → Well
 demand-3 w v s n r f l = pays s (f .obeys) (writes-reads w s r f) l
 
 -- ---- a replacement
--- an insert of the page x into the state s names a victim and steps: they are those of the replacement r of the rules, and r ends as demand 3 says
+-- an insert of the page x into the state s names a victim and n steps: they are those of the rules' replacement, which ends within r+1 steps, turns at most once, and
+-- puts out exactly one page (`Ends`)
 pub record Replaces (s : Car) (x : ℕ) (victim : Victim) (n : ℕ) : Type 0 where
   pub victim-is : victim ≡ roomFor (placeOf x (s .lists)) x s .victim
   pub steps-are : n ≡ steps (roomFor (placeOf x (s .lists)) x s)
   pub ends : Ends s (roomFor (placeOf x (s .lists)) x s)
 
--- of a page that a ghost hit has taken out of its ghost list, nothing is asked of the clocks
+-- a ghost hit leaves the clocks as they are
 ends-hit : (i : Side) (x : ℕ) (s : Car) (r : Replaced Car) → Ends (car.car (ghostHit i x (s .lists)) (s .free)) r → Ends s r
 ends-hit i x s r e = record { within = e .within; turns = e .turns; single = e .single; others = e .others }
 
@@ -111,7 +112,7 @@ unfolding does
 demand-3-insert w v s x f n i r g h o =
     insert-ends (eqb (s .lists .c) 0) (resident x (s .lists)) x f s i n refl h (outcome-is carPolicy (Insert x f) w v (New i n) s o (writes-reads w s r g) .0)
 
--- and there is no other replacement: a page goes out only where the cache is full
+-- ---- there is no other replacement
 if-full : (b hit : Bool) (s : Car) → outs (replaceIf b (replace hit) s .victim) ≡ 1 → b ≡ true
 if-full true hit s q = refl
 if-full false hit s q = absurd (omega arith)
@@ -130,9 +131,15 @@ insert-full false none x f s i n h q =
     let e : i ≡ roomFor (placeOf x (s .lists)) x s .victim = cc in
     room-full (placeOf x (s .lists)) x s (rw e at h)
 
+-- a page goes out only of a full cache
 pub victim-full : (w v : List ℕ) (s : Car) (x f n : ℕ) (i : Victim) → Writes 2 w s → WellFormed s → outs i ≡ 1
     → Outcome carPolicy (Insert x f) w v (New i n) → residents (s .lists) ≡ s .lists .c
 unfolding does
 victim-full w v s x f n i r g h o =
     let a = insert-full (eqb (s .lists .c) 0) (resident x (s .lists)) x f s i n h (outcome-is carPolicy (Insert x f) w v (New i n) s o (writes-reads w s r g) .0) in
     omega (arith, g .obeys .sound .room)
+
+-- the same of any insert whose answer names a victim
+pub demand-3-victim : (w v : List ℕ) (s : Car) (x f n : ℕ) (i : Victim) → Writes 2 w s → WellFormed s → outs i ≡ 1
+    → Outcome carPolicy (Insert x f) w v (New i n) → Replaces s x i n
+demand-3-victim w v s x f n i r g h o = demand-3-insert w v s x f n i r g (victim-full w v s x f n i r g h o) o
