@@ -7,6 +7,10 @@ use answers::Got;
 use answers::Held;
 use answers::Inserted;
 use answers::Seen;
+use batch::Counts;
+use batch::Ran;
+use batch::Tally;
+use calls::Kind;
 use fresh::Made;
 use opening::Opened;
 ghost use mathlib.Core.Path.{_≡_};
@@ -17,6 +21,7 @@ ghost use Rattle.rules.specs.Public.{wordsNeeded};
 ghost use Rattle.answers.specs.Answers.{gotIs, seenIs, heldIs, insertedIs, goneIs, clearedIs, countedIs};
 ghost use Rattle.calls.specs.Policy.{arcPolicy};
 ghost use Rattle.calls.specs.Outer.{Outcome, Told, Making, madeIs};
+ghost use Rattle.batch.specs.Outcomes.{ranIs, BatchOutcome};
 
 // ARC: its largest capacity, the words that a capacity needs, and the calls.
 pub struct ArcCore {}
@@ -170,5 +175,22 @@ impl ArcCore {
             Opened::Cache(c) => Counted::Number(arc::b2_len(area, c) as u64),
             Opened::Refused => Counted::Refused,
         }
+    }
+
+    // A batch: runs a trace on the area, and answers the operations done, or the refusal. The counts are this batch's, those before a
+    // refusal 4 or 5 counted; on refusal 3 they are those handed in.
+    pub fn tally(area: &mut [u64], trace: &[u8], lent: Counts) -> Tally
+        ensures { λ r. ⌜ BatchOutcome arcPolicy (now (trace .entry)) lent (now (area .entry)) (now (area .exit)) (ranIs (r .ran)) (r .counts) ⌝ }
+    {
+        batch::batch(area, Kind::Arc, trace, lent)
+    }
+
+    // The same with a lent record of counts, which is set.
+    pub fn batch(area: &mut [u64], trace: &[u8], counts: &mut Counts) -> Ran
+        ensures { λ r. ⌜ BatchOutcome arcPolicy (now (trace .entry)) (now (counts .entry)) (now (area .entry)) (now (area .exit)) (ranIs r) (now (counts .exit)) ⌝ }
+    {
+        let t = Self::tally(area, trace, *counts);
+        *counts = t.counts;
+        t.ran
     }
 }

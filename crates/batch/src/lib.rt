@@ -5,6 +5,7 @@ use answers::Got;
 use answers::Inserted;
 use answers::Reply;
 use calls::Kind;
+use opening::Opened;
 use trace::Cursor;
 use trace::Found;
 ghost use mathlib.Core.Path.{_≡_};
@@ -145,13 +146,11 @@ pub fn batch(area: &mut [u64], kind: Kind, trace: &[u8], lent: Counts) -> Tally
     ensures { λ r. ⌜ BatchOutcome (policyOf kind) (now (trace .entry)) lent (now (area .entry)) (now (area .exit)) (ranIs (r .ran)) (r .counts) ⌝ }
 {
     let number = calls::number(kind);
-    if state_check::check(area, number) {
-        let c = area::capacity(area);
-        run(area, c as usize, kind, trace)
-    } else {
-        Tally {
+    match opening::open(area, number) {
+        Opened::Cache(c) => run(area, c, kind, trace),
+        Opened::Refused => Tally {
             ran: Ran::Refused,
             counts: lent,
-        }
+        },
     }
 }

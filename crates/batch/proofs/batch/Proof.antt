@@ -1,33 +1,28 @@
--- `batch::batch` meets its contract: words that pass the state test are what the inner batch asks. Assumes nothing.
-use Rattle.batch.proofs.Passing.{passes, header, to-run, runs, laws}
+-- `batch::batch` meets its contract: words that open are what the inner batch asks. Assumes nothing.
+use Rattle.batch.proofs.Passing.{laws}
 use Rattle.batch.proofs.batch.Statement.{statement}
 use Rattle.batch.proofs.batch.Tie as tie
 
 number-requires : tie.Need-number-requires
 number-requires c κs = search laws
 
-check-requires : tie.Need-check-requires
-check-requires c κs = search laws
+open-requires : tie.Need-open-requires
+open-requires c κs = search laws
 
-capacity-requires : tie.Need-capacity-requires
-capacity-requires c κs =
-    header _ _ _
-    (passes (c .before .before .before .before .before .before .before .args .kind) _ _ _ (c .before .before .before .before .before .before .slice-known .given) (c .before .before .before .before .number .ensures) (c .before .before .check .ensures) (c .before .if1 .taken))
+enum-known-c : tie.Need-enum-known-c
+enum-known-c c = search laws
 
 run-requires : tie.Need-run-requires
-run-requires c κs =
-    to-run (c .before .before .before .before .before .before .before .before .before .args .kind) _ _
-    (passes (c .before .before .before .before .before .before .before .before .before .args .kind) _ _ _ (c .before .before .before .before .before .before .before .before .slice-known .given) (c .before .before .before .before .before .before .number .ensures) (c .before .before .before .before .check .ensures) (c .before .before .before .if1 .taken))
-    (c .before .capacity .ensures)
+run-requires c κs = search laws
+
+enum-told : tie.Need-enum-told
+enum-told c = search laws
 
 same-length : tie.Need-same-length
 same-length c = search laws
 
 returns : tie.Need-returns
-returns c =
-    runs (c .before .before .before .before .before .before .before .before .before .before .before .before .args .kind) _ _ _ _ _ _
-    (passes (c .before .before .before .before .before .before .before .before .before .before .before .before .args .kind) _ _ _ (c .before .before .before .before .before .before .before .before .before .before .before .slice-known .given) (c .before .before .before .before .before .before .before .before .before .number .ensures) (c .before .before .before .before .before .before .before .check .ensures) (c .before .before .before .before .before .before .if1 .taken))
-    (c .before .before .before .before .capacity .ensures) (c .before .before .run .ensures)
+returns c = search laws
 
 same-length-2 : tie.Need-same-length-2
 same-length-2 c = search laws
@@ -40,9 +35,10 @@ batch-spec =
     tie.close
     (tie.spec
     number-requires
-    check-requires
-    capacity-requires
+    open-requires
+    enum-known-c
     run-requires
+    enum-told
     same-length
     returns
     same-length-2

@@ -1,3 +1,4 @@
+-- `batch::count` meets its contract: each answer has its own arm. Assumes nothing.
 use Rattle.batch.proofs.Counting.{laws, out-evictions}
 use Rattle.batch.proofs.count.Statement.{statement}
 use Rattle.batch.proofs.count.Tie as tie

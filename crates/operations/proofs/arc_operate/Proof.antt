@@ -1,3 +1,4 @@
+-- `operations::arc_operate` meets its contract: each operation is the inner call of its name. Assumes nothing.
 use Rattle.operations.proofs.Laws.{laws}
 use Rattle.operations.proofs.arc_operate.Statement.{statement}
 use Rattle.operations.proofs.arc_operate.Tie as tie

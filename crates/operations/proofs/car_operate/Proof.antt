@@ -1,3 +1,4 @@
+-- `operations::car_operate` meets its contract: each operation is the inner call of its name. Assumes nothing.
 use Rattle.operations.proofs.Laws.{laws}
 use Rattle.operations.proofs.car_operate.Statement.{statement}
 use Rattle.operations.proofs.car_operate.Tie as tie

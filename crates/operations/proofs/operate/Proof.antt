@@ -1,3 +1,4 @@
+-- `operations::operate` meets its contract: the kind says which policy. Assumes nothing.
 use Rattle.operations.proofs.Laws.{laws}
 use Rattle.operations.proofs.operate.Statement.{statement}
 use Rattle.operations.proofs.operate.Tie as tie
