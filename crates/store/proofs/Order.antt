@@ -42,7 +42,7 @@ links-next l a (x ∷ xs) b (suc j) e h less at = links-next l x xs b j e (h .2)
 
 module _ (c : ℕ) (w : List ℕ) (s : Stored c w) where
   -- ---- the slots of a list
-  slots-are : (i : ℕ) → i < 2 → slotsAt i c w ≡ slotsOf c (partsOf c w) i
+  pub slots-are : (i : ℕ) → i < 2 → slotsAt i c w ≡ slotsOf c (partsOf c w) i
   unfolding stateIn
   slots-are i side = ap slots (list-is (sideOf i) c (partsOf c w)) ∙ slots-read c (partsOf c w) (slotsOf c (partsOf c w) (numberOf (sideOf i))) ∙ ap (slotsOf c (partsOf c w)) (number-of i side)
 
