@@ -4,3 +4,4 @@ pub mod Joined
 pub mod Slots
 pub mod Records
 pub mod Laws
+pub mod Finish

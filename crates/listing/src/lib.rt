@@ -151,3 +151,21 @@ pub fn advance(area: &[u64], kind: Kind, at: usize) -> Step
         next,
     }
 }
+
+// THE LISTING: the residents into `records`, from the first one on. Where there are fewer records than residents nothing is written, nor
+// where the area is not well formed; records past the written ones keep what they held.
+pub fn list(area: &[u64], kind: Kind, records: &mut [Record]) -> Listed
+    ensures { λ r. ⌜ ListingOutcome (policyOf kind) (now (area .entry)) (now (records .entry)) (now (records .exit)) r ⌝ }
+{
+    let p = prepare(area, kind, records.len());
+    let n = p.count;
+    let mut at = p.first;
+    let mut i = 0;
+    while i < n {
+        let s = advance(area, kind, at);
+        records[i] = s.resident;
+        at = s.next;
+        i += 1;
+    }
+    p.answer
+}
