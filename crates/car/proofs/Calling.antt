@@ -21,12 +21,15 @@ use Rattle.area.specs.Stored.{Stored, stateIn, Left}
 use Rattle.store.specs.Store.{IsSlot, HasGhost, FoundIs}
 use Rattle.store.specs.declared.Found.{Found}
 use Rattle.store.specs.declared.Found.the-variants.{Resident as FoundResident, Recent, Frequent, Nowhere}
-use Rattle.car.specs.Car.{Good, Did, Tells, gotIs, seenIs, goneIs, SlotIs}
+use Rattle.answers.specs.Answers.{gotIs, seenIs, goneIs}
+use Rattle.answers.specs.declared.Got.the-variants.{Hit, Miss}
+use Rattle.answers.specs.declared.Seen.the-variants.{See, No}
+use Rattle.answers.specs.declared.Gone.the-variants.{Frame, Absent}
+use Rattle.calls.specs.Policy.{carPolicy}
+use Rattle.calls.specs.Inner.{Good, Did, Says}
+use Rattle.car.specs.Car.{SlotIs}
 use Rattle.car.specs.declared.Slot.{Slot}
 use Rattle.car.specs.declared.Slot.the-variants.{At, Nobody}
-use Rattle.car.specs.declared.Got.the-variants.{Hit, Miss}
-use Rattle.car.specs.declared.Seen.the-variants.{See, No}
-use Rattle.car.specs.declared.Gone.the-variants.{Gone, Absent}
 
 -- ---- the arms of a match: what the answer said, of the case that it is
 module _ (c : ℕ) (w : List ℕ) (x : ℕ) where
@@ -60,12 +63,12 @@ module _ (c : ℕ) (w : List ℕ) (x : ℕ) where
     arm-nobody q = slot-as Nobody q
 
 -- a call that only finds, or that the store answers
-module _ (c : ℕ) (w : List ℕ) (g : Good c w) where
+module _ (c : ℕ) (w : List ℕ) (g : Good carPolicy c w) where
   pub good-stored : Stored c w
   good-stored = g .stored
 
   -- ---- what a call leaves is well formed, where it is what the rules say
-  pub did : (k : Call) (v : List ℕ) (t : Car) (a : Answer) → InRange k → Left c w v t → t ≡ rules.does k (stateIn c w) .state → a ≡ rules.does k (stateIn c w) .answer → Did k c w v a
+  pub did : (k : Call) (v : List ℕ) (t : Car) (a : Answer) → InRange k → Left c w v t → t ≡ rules.does k (stateIn c w) .state → a ≡ rules.does k (stateIn c w) .answer → Did carPolicy k c w v a
   did k v t a r l q z =
       let e : stateIn c v ≡ rules.does k (stateIn c w) .state = l .reads ∙ q in
       record {
@@ -77,7 +80,7 @@ module _ (c : ℕ) (w : List ℕ) (g : Good c w) where
       }
 
   -- nothing changed
-  pub stays : (k : Call) (a : Answer) → stateIn c w ≡ rules.does k (stateIn c w) .state → a ≡ rules.does k (stateIn c w) .answer → Did k c w w a
+  pub stays : (k : Call) (a : Answer) → stateIn c w ≡ rules.does k (stateIn c w) .state → a ≡ rules.does k (stateIn c w) .answer → Did carPolicy k c w w a
   stays k a q z = record { good = g; state = q; answer = z; size = refl; rest = refl }
 
   state-c : stateIn c w .lists .c ≡ c
@@ -86,16 +89,16 @@ module _ (c : ℕ) (w : List ℕ) (g : Good c w) where
 
   module _ (x : ℕ) where
     -- ---- hits
-    pub get-miss : SlotIs c w x Nobody → Did (Get x) c w w (gotIs Miss)
+    pub get-miss : SlotIs c w x Nobody → Did carPolicy (Get x) c w w (gotIs Miss)
     unfolding rules.does rules.got
     get-miss n = stays (Get x) (gotIs Miss) (rw n refl) (rw n refl)
 
-    pub get-hit : x < 2 ^ 64 → (e f : ℕ) → SlotIs c w x (At e) → f ≡ residentAt e (stateIn c w) .frame → (v : List ℕ) → Left c w v (markedAt e (eqb 1 1) (stateIn c w)) → Did (Get x) c w v (gotIs (Hit f))
+    pub get-hit : x < 2 ^ 64 → (e f : ℕ) → SlotIs c w x (At e) → f ≡ residentAt e (stateIn c w) .frame → (v : List ℕ) → Left c w v (markedAt e (eqb 1 1) (stateIn c w)) → Did carPolicy (Get x) c w v (gotIs (Hit f))
     unfolding rules.does rules.got rules.touched markedAt
     get-hit h e f t q v l = did (Get x) v (markedAt e true (stateIn c w)) (gotIs (Hit f)) h l (rw (t .1) refl) (rw (t .1, q) refl)
 
     -- ---- removals
-    pub remove-absent : SlotIs c w x Nobody → Did (Remove x) c w w (goneIs Absent)
+    pub remove-absent : SlotIs c w x Nobody → Did carPolicy (Remove x) c w w (goneIs Absent)
     unfolding rules.does rules.removed
     remove-absent n = stays (Remove x) (goneIs Absent) (rw n refl) (rw n refl)
 
@@ -103,63 +106,63 @@ module _ (c : ℕ) (w : List ℕ) (g : Good c w) where
     unfolding stateIn
     slot-at e t = ap (λ (r : Resident). r .more .slot) (resident-at c (partsOf c w) (t .number) e (t .slot .side) (t .slot .member)) ∙ slot-is c (partsOf c w) e
 
-    pub remove-gone : x < 2 ^ 64 → (e f : ℕ) → SlotIs c w x (At e) → f ≡ residentAt e (stateIn c w) .frame → (v : List ℕ) → Left c w v (removedAt e (stateIn c w)) → Did (Remove x) c w v (goneIs (Gone f))
+    pub remove-gone : x < 2 ^ 64 → (e f : ℕ) → SlotIs c w x (At e) → f ≡ residentAt e (stateIn c w) .frame → (v : List ℕ) → Left c w v (removedAt e (stateIn c w)) → Did carPolicy (Remove x) c w v (goneIs (Frame f))
     unfolding rules.does rules.removed removedAt
     remove-gone h e f t q v l =
-        did (Remove x) v (removedAt e (stateIn c w)) (goneIs (Gone f)) h l
+        did (Remove x) v (removedAt e (stateIn c w)) (goneIs (Frame f)) h l
         (rw (t .1) (ap (λ (k : ℕ). car (leaves (residentAt e (stateIn c w) .page) (stateIn c w .lists)) (k ∷ stateIn c w .free)) (sym (slot-at e (t .0)))))
         (rw (t .1, q) refl)
 
     -- ---- questions about a page
-    pub peek-see : (e f : ℕ) → SlotIs c w x (At e) → f ≡ residentAt e (stateIn c w) .frame → Tells (Peek x) c w (seenIs (See f))
+    pub peek-see : (e f : ℕ) → SlotIs c w x (At e) → f ≡ residentAt e (stateIn c w) .frame → Says carPolicy (Peek x) c w (seenIs (See f))
     unfolding rules.does asked
-    peek-see e f t q = rw (t .1, q) refl
+    peek-see e f t q = record { answer = rw (t .1, q) refl }
 
-    pub peek-no : SlotIs c w x Nobody → Tells (Peek x) c w (seenIs No)
+    pub peek-no : SlotIs c w x Nobody → Says carPolicy (Peek x) c w (seenIs No)
     unfolding rules.does asked
-    peek-no n = rw n refl
+    peek-no n = record { answer = rw n refl }
 
-    pub holds-it : (r : Slot) (e : ℕ) → SlotIs c w x r → r ≡ At e → Tells (Contains x) c w (Holds true)
+    pub holds-it : (r : Slot) (e : ℕ) → SlotIs c w x r → r ≡ At e → Says carPolicy (Contains x) c w (Holds true)
     unfolding rules.does asked
-    holds-it r e t q = rw (arm-at c w x r t e q .1) refl
+    holds-it r e t q = record { answer = rw (arm-at c w x r t e q .1) refl }
 
-    pub holds-not : SlotIs c w x Nobody → Tells (Contains x) c w (Holds false)
+    pub holds-not : SlotIs c w x Nobody → Says carPolicy (Contains x) c w (Holds false)
     unfolding rules.does asked
-    holds-not n = rw n refl
+    holds-not n = record { answer = rw n refl }
 
   -- ---- clear
-  pub clears : (v : List ℕ) → Left c w v (rules.new c) → Did Clear c w v Cleared
+  pub clears : (v : List ℕ) → Left c w v (rules.new c) → Did carPolicy Clear c w v Cleared
   unfolding rules.does
   clears v l = did Clear v (rules.new c) Cleared tt l (ap (λ (n : ℕ). rules.new n) (sym state-c)) refl
 
   -- ---- lengths
-  pub tells-len : (m n : ℕ) → m ≡ length (list (sideOf 0) (stateIn c w .lists)) → n ≡ length (list (sideOf 1) (stateIn c w .lists)) → Tells Len c w (Number (m + n))
+  pub tells-len : (m n : ℕ) → m ≡ length (list (sideOf 0) (stateIn c w .lists)) → n ≡ length (list (sideOf 1) (stateIn c w .lists)) → Says carPolicy Len c w (Number (m + n))
   unfolding rules.does asked
-  tells-len m n p q = rw (p, q) refl
+  tells-len m n p q = record { answer = rw (p, q) refl }
 
-  pub tells-capacity : Tells Capacity c w (Number c)
+  pub tells-capacity : Says carPolicy Capacity c w (Number c)
   unfolding rules.does asked
-  tells-capacity = ap (λ (n : ℕ). Number n) (sym state-c)
+  tells-capacity = record { answer = ap (λ (n : ℕ). Number n) (sym state-c) }
 
-  pub tells-target : (n : ℕ) → n ≡ targetOf w → Tells Target c w (Number n)
+  pub tells-target : (n : ℕ) → n ≡ targetOf w → Says carPolicy Target c w (Number n)
   unfolding rules.does asked stateIn stateOf partsOf
-  tells-target n q = ap (λ (m : ℕ). Number m) q
+  tells-target n q = record { answer = ap (λ (m : ℕ). Number m) q }
 
-  pub tells-t1 : (n : ℕ) → n ≡ length (list (sideOf 0) (stateIn c w .lists)) → Tells T1Len c w (Number n)
+  pub tells-t1 : (n : ℕ) → n ≡ length (list (sideOf 0) (stateIn c w .lists)) → Says carPolicy T1Len c w (Number n)
   unfolding rules.does asked
-  tells-t1 n q = ap (λ (m : ℕ). Number m) q
+  tells-t1 n q = record { answer = ap (λ (m : ℕ). Number m) q }
 
-  pub tells-t2 : (n : ℕ) → n ≡ length (list (sideOf 1) (stateIn c w .lists)) → Tells T2Len c w (Number n)
+  pub tells-t2 : (n : ℕ) → n ≡ length (list (sideOf 1) (stateIn c w .lists)) → Says carPolicy T2Len c w (Number n)
   unfolding rules.does asked
-  tells-t2 n q = ap (λ (m : ℕ). Number m) q
+  tells-t2 n q = record { answer = ap (λ (m : ℕ). Number m) q }
 
-  pub tells-b1 : (n : ℕ) → n ≡ length (ghosts (sideOf 0) (stateIn c w .lists)) → Tells B1Len c w (Number n)
+  pub tells-b1 : (n : ℕ) → n ≡ length (ghosts (sideOf 0) (stateIn c w .lists)) → Says carPolicy B1Len c w (Number n)
   unfolding rules.does asked
-  tells-b1 n q = ap (λ (m : ℕ). Number m) q
+  tells-b1 n q = record { answer = ap (λ (m : ℕ). Number m) q }
 
-  pub tells-b2 : (n : ℕ) → n ≡ length (ghosts (sideOf 1) (stateIn c w .lists)) → Tells B2Len c w (Number n)
+  pub tells-b2 : (n : ℕ) → n ≡ length (ghosts (sideOf 1) (stateIn c w .lists)) → Says carPolicy B2Len c w (Number n)
   unfolding rules.does asked
-  tells-b2 n q = ap (λ (m : ℕ). Number m) q
+  tells-b2 n q = record { answer = ap (λ (m : ℕ). Number m) q }
 
   -- a sum of lengths is small
   room : residents (stateIn c w .lists) ≤ c

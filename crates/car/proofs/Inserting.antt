@@ -28,12 +28,15 @@ use Rattle.area.specs.Stored.{Stored, stateIn, Left}
 use Rattle.store.specs.Store.{HasGhost, CanEnter, FoundIs}
 use Rattle.store.specs.declared.Found.{Found}
 use Rattle.store.specs.declared.Found.the-variants.{Recent, Frequent, Nowhere}
-use Rattle.car.specs.Car.{Good, Did, insertedIs}
+use Rattle.answers.specs.Answers.{insertedIs, placeIs, placeOfList}
+use Rattle.answers.specs.declared.Inserted.{Inserted}
+use Rattle.answers.specs.declared.Inserted.the-variants.{New, Out, None}
+use Rattle.answers.specs.declared.Place as answers
+use Rattle.calls.specs.Policy.{carPolicy}
+use Rattle.calls.specs.Inner.{Good, Did}
 use Rattle.car.proofs.Calling.{found-as, did, stays}
 use Rattle.car.specs.Replace.{HasResident, Replaces}
 use Rattle.car.specs.Insert.{HasRoom, made, Makes, CanCome, Admits, Comes, Enters, Hits, AimIs, hitState}
-use Rattle.car.specs.declared.Inserted.{Inserted}
-use Rattle.car.specs.declared.Inserted.the-variants.{New, Out, None}
 use Rattle.car.specs.declared.Victim as declared
 
 state-c : (c : ℕ) (w : List ℕ) → stateIn c w .lists .c ≡ c
@@ -66,8 +69,8 @@ module _ (c : ℕ) (w : List ℕ) (h : HasRoom c w) (hit : Bool) (n : ℕ) (p : 
         fewer = λ y. omega arith;
       }
 
-  pub room-made : c ≤ n → (v : List ℕ) (r : declared.Victim) → Replaces c w v hit r → Makes c w v hit (Out (r .page) (r .frame) (r .list) (r .steps))
-  room-made l v r d =
+  pub room-made : c ≤ n → (v : List ℕ) (r : declared.Victim) → Replaces c w v hit r → (k : answers.Place) → placeIs k ≡ placeOfList (r .list) → Makes c w v hit (Out (r .page) (r .frame) k (r .steps))
+  room-made l v r d k q =
       let some : 1 ≤ residents (stateIn c w .lists) = (let z : 0 < c = h .some in omega arith) in
       let z : full (stateIn c w .lists) ≡ true = le-leb (stateIn c w .lists .c) (residents (stateIn c w .lists)) (omega (arith, state-c c w)) in
       let s = replace-swept hit (stateIn c w) some in
@@ -75,7 +78,7 @@ module _ (c : ℕ) (w : List ℕ) (h : HasRoom c w) (hit : Bool) (n : ℕ) (p : 
       let less : residents (stateIn c w .lists) ≡ residents (stateIn c v .lists) + 1 = s .less ∙ ap (λ (t : Car). residents (t .lists) + 1) (sym e) in
       record {
         left = rw z (d .left);
-        answer = rw (z, d .victim, d .steps) refl;
+        answer = rw (z, q, d .victim, d .steps) refl;
         room = omega (arith, less, obeys c w (h .stored) .sound .room, state-c c w, slots-left (stateIn c v) (obeys c v (d .left .stored)), state-c c v);
         fewer = λ y. rw e (s .fewer y);
       }
@@ -91,7 +94,7 @@ absent-resident x s h = go (resident x s) refl
 absent-place : (x : ℕ) (s : Lists Clocked) → seen x s ≡ 0 → placeOf x s ≡ nowhere
 absent-place x s h = rw (le-ltb 0 (times x (s .B1)) (omega arith), le-ltb 0 (times x (s .B2)) (omega arith)) refl
 
-module _ (c : ℕ) (w : List ℕ) (j x f : ℕ) (h : CanCome c w j x f) where
+module _ (c : ℕ) (w : List ℕ) (j x : ℕ) (h : CanCome c w j x) where
   pub enter-room : HasRoom c w
   enter-room = h .can
 
@@ -99,25 +102,25 @@ module _ (c : ℕ) (w : List ℕ) (j x f : ℕ) (h : CanCome c w j x f) where
     none-after : seen x (stateIn c v .lists) ≡ 0
     none-after = omega (arith, m .fewer x, h .absent)
 
-    pub enter-can : CanEnter c v x f 0
-    enter-can = record { stored = m .left .stored; room = m .room; fresh = absent-resident x (stateIn c v .lists) none-after; unrecorded = absent-place x (stateIn c v .lists) none-after; frame = h .frame; bit = omega arith }
+    pub enter-can : CanEnter c v x 0
+    enter-can = record { stored = m .left .stored; room = m .room; fresh = absent-resident x (stateIn c v .lists) none-after; unrecorded = absent-place x (stateIn c v .lists) none-after; bit = omega arith }
 
-    pub enter-admits : (u : List ℕ) → Left c v u (enteredAtEnd (sideOf j) x f (eqb 0 1) (stateIn c v)) → Admits c w u j x f hit r
+    pub enter-admits : (f : ℕ) (u : List ℕ) → Left c v u (enteredAtEnd (sideOf j) x f (eqb 0 1) (stateIn c v)) → Admits c w u j x f hit r
     unfolding admitted enteredAtEnd newResident
-    enter-admits u l =
+    enter-admits f u l =
         record {
           left = record { stored = l .stored; reads = l .reads ∙ ap (λ (t : Car). enteredAtEnd (sideOf j) x f false t) (m .left .reads); kind = l .kind ∙ m .left .kind; size = l .size ∙ m .left .size; rest = l .rest ∙ m .left .rest };
           answer = m .answer;
         }
 
 -- ---- the miss
-module _ (c : ℕ) (w : List ℕ) (x f : ℕ) (h : Comes c w nowhere x f) where
-  pub miss-can : CanCome c w 0 x f
-  miss-can = record { can = h .can; side = omega arith; absent = ready-none x (stateIn c w .lists) (h .place) (h .fresh) (obeys c w (h .can .stored) .sound) .absent; frame = h .frame }
+module _ (c : ℕ) (w : List ℕ) (x : ℕ) (h : Comes c w nowhere x) where
+  pub miss-can : CanCome c w 0 x
+  miss-can = record { can = h .can; side = omega arith; absent = ready-none x (stateIn c w .lists) (h .place) (h .fresh) (obeys c w (h .can .stored) .sound) .absent }
 
-  pub miss-enters : (v : List ℕ) (r : Inserted) → Admits c w v 0 x f false r → Enters c w v nowhere x f r
+  pub miss-enters : (f : ℕ) (v : List ℕ) (r : Inserted) → Admits c w v 0 x f false r → Enters c w v nowhere x f r
   unfolding insertAt roomFor missed
-  miss-enters v r m = record { left = m .left; answer = m .answer }
+  miss-enters f v r m = record { left = m .left; answer = m .answer }
 
 -- ---- the ghost hit
 aimed-recent : (c t : ℕ) → t < c → t + 1 ≡ min c (t + 1)
@@ -146,7 +149,7 @@ module _ (c : ℕ) (w : List ℕ) (s : Stored c w) (t : ℕ) (q : t ≡ targetOf
   pub aim-less : (i : ℕ) → i < 2 → (i ≡ 0 → ⊥) → (t ≡ 0 → ⊥) → AimIs c w i (t - 1)
   aim-less i b z k = let o : i ≡ 1 = omega arith in rw o (record { is = rw target-is refl; low = omega (arith, low) })
 
-module _ (c : ℕ) (w : List ℕ) (i g x f : ℕ) (h : Hits c w i g x f) where
+module _ (c : ℕ) (w : List ℕ) (i g x : ℕ) (h : Hits c w i g x) where
   pub hit-aims : Stored c w × (i < 2)
   hit-aims = (h .cell .stored, h .side)
 
@@ -169,13 +172,12 @@ module _ (c : ℕ) (w : List ℕ) (i g x f : ℕ) (h : Hits c w i g x f) where
         }
 
   module _ (v : List ℕ) (l : Left c w v (hitState c w i x)) where
-    pub hit-can : CanCome c v 1 x f
+    pub hit-can : CanCome c v 1 x
     hit-can =
         record {
           can = record { stored = l .stored; some = h .comes .can .some };
           side = omega arith;
           absent = ap (λ (s : Car). seen x (s .lists)) (l .reads) ∙ ready x (stateIn c w .lists) (sideOf i) (h .comes .place) (h .comes .fresh) (obeys c w (h .cell .stored) .sound) .0 .absent;
-          frame = h .comes .frame;
         }
 
     is-b2 : (i : ℕ) → i < 2 → eqb i 1 ≡ isB2 (sideOf i)
@@ -189,16 +191,16 @@ module _ (c : ℕ) (w : List ℕ) (i g x f : ℕ) (h : Hits c w i g x f) where
         ap (λ (b : Bool). made c v b) (is-b2 i (h .side))
         ∙ ap (λ (s : Car). replaceIf (full (s .lists)) (replace (isB2 (sideOf i))) s) (l .reads)
 
-    pub hit-enters : (u : List ℕ) (r : Inserted) → Admits c v u 1 x f (eqb i 1) r → Enters c w u (ghost (sideOf i)) x f r
+    pub hit-enters : (f : ℕ) (u : List ℕ) (r : Inserted) → Admits c v u 1 x f (eqb i 1) r → Enters c w u (ghost (sideOf i)) x f r
     unfolding insertAt
-    hit-enters u r m =
+    hit-enters f u r m =
         record {
           left = record { stored = m .left .stored; reads = m .left .reads ∙ ap (λ (s : Replaced Car). admitted second x f (s .state)) made-is; kind = m .left .kind ∙ l .kind; size = m .left .size ∙ l .size; rest = m .left .rest ∙ l .rest };
           answer = m .answer ∙ ap (λ (s : Replaced Car). calls.New (s .victim) (steps s)) made-is;
         }
 
 -- ---- the whole: what `find` answered, and what was done
-module _ (c : ℕ) (w : List ℕ) (g : Good c w) (x f : ℕ) (hc : c ≡ 0 → ⊥) (hf : f < 2 ^ 32) where
+module _ (c : ℕ) (w : List ℕ) (g : Good carPolicy c w) (x f : ℕ) (hc : c ≡ 0 → ⊥) (hf : f < 2 ^ 32) where
   has-room : HasRoom c w
   has-room = record { stored = g .stored; some = omega arith }
 
@@ -206,31 +208,31 @@ module _ (c : ℕ) (w : List ℕ) (g : Good c w) (x f : ℕ) (hc : c ≡ 0 → �
   not-empty = ne-eqb (stateIn c w .lists .c) 0 (λ q. hc (sym (state-c c w) ∙ q))
 
   module _ (r : Found) (h : FoundIs c w x r) where
-    pub insert-misses : r ≡ Nowhere → Comes c w nowhere x f
-    insert-misses q = let a = found-as c w x r h Nowhere q in record { can = has-room; fresh = a .0; place = a .1; frame = hf }
+    pub insert-misses : r ≡ Nowhere → Comes c w nowhere x
+    insert-misses q = let a = found-as c w x r h Nowhere q in record { can = has-room; fresh = a .0; place = a .1 }
 
-    pub insert-recent : (n : ℕ) → r ≡ Recent n → Hits c w 0 n x f
-    insert-recent n q = let a = found-as c w x r h (Recent n) q in record { side = omega arith; cell = a .0; comes = record { can = has-room; fresh = a .1; place = a .2; frame = hf } }
+    pub insert-recent : (n : ℕ) → r ≡ Recent n → Hits c w 0 n x
+    insert-recent n q = let a = found-as c w x r h (Recent n) q in record { side = omega arith; cell = a .0; comes = record { can = has-room; fresh = a .1; place = a .2 } }
 
-    pub insert-frequent : (n : ℕ) → r ≡ Frequent n → Hits c w 1 n x f
-    insert-frequent n q = let a = found-as c w x r h (Frequent n) q in record { side = omega arith; cell = a .0; comes = record { can = has-room; fresh = a .1; place = a .2; frame = hf } }
+    pub insert-frequent : (n : ℕ) → r ≡ Frequent n → Hits c w 1 n x
+    insert-frequent n q = let a = found-as c w x r h (Frequent n) q in record { side = omega arith; cell = a .0; comes = record { can = has-room; fresh = a .1; place = a .2 } }
 
-  module _ (p : Place) (k : Comes c w p x f) where
-    pub inserts : x < 2 ^ 64 → (v : List ℕ) (r : Inserted) → Enters c w v p x f r → Did (Insert x f) c w v (insertedIs r)
+  module _ (p : Place) (k : Comes c w p x) where
+    pub inserts : x < 2 ^ 64 → (v : List ℕ) (r : Inserted) → Enters c w v p x f r → Did carPolicy (Insert x f) c w v (insertedIs r)
     unfolding does inserted
     inserts hx v r e =
         did c w g (Insert x f) v (insertAt p x f (stateIn c w) .state) (insertedIs r) (hx, hf) (e .left)
         (rw (not-empty, k .fresh, k .place) refl)
         (rw (not-empty, k .fresh, k .place) (e .answer))
 
-pub insert-nothing : (c : ℕ) (w : List ℕ) → Good c w → (x f : ℕ) → c ≡ 0 → Did (Insert x f) c w w (insertedIs None)
+pub insert-nothing : (c : ℕ) (w : List ℕ) → Good carPolicy c w → (x f : ℕ) → c ≡ 0 → Did carPolicy (Insert x f) c w w (insertedIs None)
 unfolding does inserted
 insert-nothing c w g x f z =
     let q : eqb (stateIn c w .lists .c) 0 ≡ true = eq-eqb (stateIn c w .lists .c) 0 (state-c c w ∙ z) in
     stays c w g (Insert x f) (insertedIs None) (rw q refl) (rw q refl)
 
-pub comes-room : (c : ℕ) (w : List ℕ) (p : Place) (x f : ℕ) → Comes c w p x f → HasRoom c w
-comes-room c w p x f h = h .can
+pub comes-room : (c : ℕ) (w : List ℕ) (p : Place) (x : ℕ) → Comes c w p x → HasRoom c w
+comes-room c w p x h = h .can
 
 pub room-stored : (c : ℕ) (w : List ℕ) → HasRoom c w → Stored c w
 room-stored c w h = h .stored

@@ -23,9 +23,11 @@ use Rattle.store.specs.Store.{IsSlot, FoundIs}
 use Rattle.store.proofs.Steps.{number-of}
 use Rattle.store.specs.declared.Found.{Found}
 use Rattle.store.specs.declared.Found.the-variants.{Resident as FoundResident}
-use Rattle.car.specs.Car.{Good, Did, insertedIs}
+use Rattle.answers.specs.Answers.{insertedIs}
+use Rattle.calls.specs.Policy.{carPolicy}
+use Rattle.calls.specs.Inner.{Good, Did}
 use Rattle.car.specs.Insert.{Updates}
-use Rattle.car.specs.declared.Inserted.the-variants.{Old}
+use Rattle.answers.specs.declared.Inserted.the-variants.{Old}
 use Rattle.car.proofs.Calling.{found-as, did}
 
 -- ---- lists in which a frame is changed
@@ -105,11 +107,11 @@ state-c : (c : ℕ) (w : List ℕ) → stateIn c w .lists .c ≡ c
 unfolding stateIn stateOf
 state-c c w = refl
 
-module _ (c : ℕ) (w : List ℕ) (g : Good c w) (x f : ℕ) (hc : c ≡ 0 → ⊥) (r : Found) (h : FoundIs c w x r) (e : ℕ) (q : r ≡ FoundResident e) where
+module _ (c : ℕ) (w : List ℕ) (g : Good carPolicy c w) (x f : ℕ) (hc : c ≡ 0 → ⊥) (r : Found) (h : FoundIs c w x r) (e : ℕ) (q : r ≡ FoundResident e) where
   pub insert-slot : IsSlot c w e
   insert-slot = found-as c w x r h (FoundResident e) q .0
 
-  pub insert-old : x < 2 ^ 64 → f < 2 ^ 32 → (v : List ℕ) (n : ℕ) → Updates c w v e f n → Did (Insert x f) c w v (insertedIs (Old n))
+  pub insert-old : x < 2 ^ 64 → f < 2 ^ 32 → (v : List ℕ) (n : ℕ) → Updates c w v e f n → Did carPolicy (Insert x f) c w v (insertedIs (Old n))
   unfolding does inserted
   insert-old hx hf v n d =
       let a = found-as c w x r h (FoundResident e) q .1 in

@@ -3,7 +3,7 @@ use mathlib.Core.Path.{_≡_}
 use mathlib.Core.Bool.{Bool, true}
 use mathlib.Core.Option.{none}
 use mathlib.Core.List.{List}
-use Prim.Native.Nat.{ℕ, _^_, _<_, _≤_}
+use Prim.Native.Nat.{ℕ, _<_, _≤_}
 use lib.ListN.{length}
 use Rattle.rules.specs.State.{withFrame, Side, resident, seen, full}
 use Rattle.rules.specs.Calls.{Place, New, ghost, nowhere, Replaced, replaceIf, steps}
@@ -13,8 +13,8 @@ use Rattle.parts.specs.States.{residentAt}
 use Rattle.area.specs.Area.{sideOf}
 use Rattle.area.specs.Stored.{Stored, stateIn, Left}
 use Rattle.store.specs.Store.{HasGhost}
-use Rattle.car.specs.Car.{insertedIs}
-use Rattle.car.specs.declared.Inserted.{Inserted}
+use Rattle.answers.specs.Answers.{insertedIs}
+use Rattle.answers.specs.declared.Inserted.{Inserted}
 
 -- an area of a cache that can hold a page
 pub record HasRoom (c : ℕ) (w : List ℕ) : Type 0 where
@@ -33,32 +33,30 @@ pub record Makes (c : ℕ) (w v : List ℕ) (hit : Bool) (r : Inserted) : Type 0
   pub fewer : (y : ℕ) → seen y (stateIn c v .lists) ≤ seen y (stateIn c w .lists)
 
 -- a page that no list has may come
-pub record CanCome (c : ℕ) (w : List ℕ) (j x f : ℕ) : Type 0 where
+pub record CanCome (c : ℕ) (w : List ℕ) (j x : ℕ) : Type 0 where
   pub can : HasRoom c w
   pub side : j < 2
   pub absent : seen x (stateIn c w .lists) ≡ 0
-  pub frame : f < 2 ^ 32
 
 pub record Admits (c : ℕ) (w v : List ℕ) (j x f : ℕ) (hit : Bool) (r : Inserted) : Type 0 where
   pub left : Left c w v (admitted (sideOf j) x f (made c w hit .state))
   pub answer : insertedIs r ≡ New (made c w hit .victim) (steps (made c w hit))
 
 -- a page that is in the place p, and no resident's, may come
-pub record Comes (c : ℕ) (w : List ℕ) (p : Place) (x f : ℕ) : Type 0 where
+pub record Comes (c : ℕ) (w : List ℕ) (p : Place) (x : ℕ) : Type 0 where
   pub can : HasRoom c w
   pub fresh : resident x (stateIn c w .lists) ≡ none
   pub place : placeOf x (stateIn c w .lists) ≡ p
-  pub frame : f < 2 ^ 32
 
 pub record Enters (c : ℕ) (w v : List ℕ) (p : Place) (x f : ℕ) (r : Inserted) : Type 0 where
   pub left : Left c w v (insertAt p x f (stateIn c w) .state)
   pub answer : insertedIs r ≡ insertAt p x f (stateIn c w) .answer
 
 -- a ghost hit: cell g of the ghost list of side i holds the page
-pub record Hits (c : ℕ) (w : List ℕ) (i g x f : ℕ) : Type 0 where
+pub record Hits (c : ℕ) (w : List ℕ) (i g x : ℕ) : Type 0 where
   pub side : i < 2
   pub cell : HasGhost c w (sideOf i) g x
-  pub comes : Comes c w (ghost (sideOf i)) x f
+  pub comes : Comes c w (ghost (sideOf i)) x
 
 -- the target that a ghost hit of a side moves to
 pub record AimIs (c : ℕ) (w : List ℕ) (i r : ℕ) : Type 0 where

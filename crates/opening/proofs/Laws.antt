@@ -16,9 +16,9 @@ use Rattle.opening.specs.declared.Opened.the-variants.{Cache, Refused}
 
 module _ (kind : ℕ) (w : List ℕ) (b : Bool) (is : b ≡ stateTest kind w) where
   -- words that pass have a header
-  pub has-header : b ≡ true → 1 < length w
+  pub has-header : (i : ℕ) → i < 64 → b ≡ true → i < length w
   unfolding stateIn parts.stateOf
-  has-header q = let s : endAt (capacityOf w) ≤ length w = state-writes kind w (sym is ∙ q) .stored .size in omega arith
+  has-header i h q = let s : endAt (capacityOf w) ≤ length w = state-writes kind w (sym is ∙ q) .stored .size in omega arith
 
   pub opens : b ≡ true → ((i : ℕ) → getD w i 0 < 2 ^ 64) → Opens kind w (Cache (getD w 1 0))
   opens q words = record { test = sym is ∙ q; words = words; capacity = refl }

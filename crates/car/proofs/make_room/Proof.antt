@@ -15,6 +15,9 @@ returns c = search insertLaws
 replace-requires : tie.Need-replace-requires
 replace-requires c κs = search insertLaws
 
+recorded-in-requires : tie.Need-recorded-in-requires
+recorded-in-requires c κs = search insertLaws
+
 same-length-2 : tie.Need-same-length-2
 same-length-2 c = search insertLaws
 
@@ -23,4 +26,4 @@ returns-2 c = search insertLaws
 
 pub make-room-spec : {M : Type 1} → statement M
 make-room-spec =
-    tie.close (tie.spec held-requires same-length returns replace-requires same-length-2 returns-2)
+    tie.close (tie.spec held-requires same-length returns replace-requires recorded-in-requires same-length-2 returns-2)

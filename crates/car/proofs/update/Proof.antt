@@ -10,7 +10,7 @@ set-frame-requires : tie.Need-set-frame-requires
 set-frame-requires c κs = search updateLaws
 
 set-bit-requires : tie.Need-set-bit-requires
-set-bit-requires c κs = (update-slot _ _ _ _ (c .before .before .before .before .before .before .before .before .pre .0) _ (c .before .before .before .set-frame .ensures), search updateLaws)
+set-bit-requires c κs = (update-slot _ _ _ _ (c .before .before .before .before .before .before .before .before .pre) _ (c .before .before .before .set-frame .ensures), search updateLaws)
 
 same-length : tie.Need-same-length
 same-length c = search updateLaws
