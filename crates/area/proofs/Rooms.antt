@@ -1,6 +1,6 @@
 -- The parts of an area with words enough have room for a cache. Assumes nothing.
 use mathlib.Core.List.{List}
-use Prim.Native.Nat.{ℕ, _≤_}
+use Prim.Native.Nat.{ℕ, _*_, _<_, _≤_}
 use native.Mathlib.Omega.{arith}
 use lib.ListN.{length, length-drop}
 use Rattle.rules.specs.State.{Side, first, second}
@@ -8,6 +8,8 @@ use Rattle.cells.specs.Cells.{Cells, wordsOf}
 use Rattle.ghosts.specs.Ghosts as ghosts
 use Rattle.lookup.specs.Buckets.{bucketsOf, placesOf}
 use Rattle.lookup.specs.Part as lookup
+use Rattle.lookup.specs.Changes.{CanReach}
+use Rattle.lookup.proofs.Table.{room-reach}
 use Rattle.parts.specs.Parts.{ghostsOf}
 use Rattle.parts.proofs.Making.{HaveRoom}
 use Rattle.area.specs.Area.{lookupIn, endAt, partsOf}
@@ -19,6 +21,10 @@ module _ (c : ℕ) (w : List ℕ) (small : c ≤ 1024) (size : endAt c ≤ lengt
   lookup-room =
       let n = length-lookup c w size in
       record { some = omega arith; pages = omega arith; links = simp length-drop (omega arith); fits = omega arith }
+
+  -- a place of the lookup is a cell
+  pub lookup-reach : (y : ℕ) → y < 3 * c → CanReach (lookupIn c w) (3 * c) y
+  lookup-reach y h = room-reach (lookupIn c w) (placesOf c) (bucketsOf c) y lookup-room (omega arith)
 
   sides : (i : Side) → ghosts.Room (ghostsOf i (partsOf c w)) c
   unfolding partsOf

@@ -1,9 +1,11 @@
 // The lookup's part of an area.
 ghost use mathlib.Core.Path.{_≡_};
 ghost use Prim.Native.Nat.{_+_, _*_, _<_, _≤_};
+ghost use lib.Dec.{eqb};
 ghost use lib.ListN.{length};
+ghost use Rattle.cells.specs.Cells.{prevOf};
 ghost use Rattle.lookup.specs.Buckets.{bucketsOf, placesOf};
-ghost use Rattle.lookup.specs.Part.{pageOf};
+ghost use Rattle.lookup.specs.Part.{pageOf, linksOf};
 ghost use Rattle.lookup.specs.Lookup.{findOf, look, placeOr, CanFind};
 ghost use Rattle.lookup.specs.Changes.{putIn, taken, renamed, CanPut, CanTake, CanRename};
 ghost use Rattle.parts.specs.Parts.{setLookup};
@@ -41,6 +43,17 @@ pub fn page(area: &[u64], c: usize, y: usize) -> u64
     let a = 9 * c + 62;
     let b = 24 * c + 64;
     lookup::page_of(&area[a..b], y)
+}
+
+// Whether the place y is dead: it stands before itself.
+pub fn dead(area: &[u64], c: usize, y: usize) -> bool
+    requires { ⌜ Fit c (now area) (y < 3 * c) ⌝ }
+    ensures { λ r. ⌜ r ≡ eqb (prevOf (linksOf (placesOf c) (lookupIn c (now (area .entry)))) y) y ⌝ }
+{
+    let a = 9 * c + 62;
+    let b = 24 * c + 64;
+    let m = 3 * c;
+    lookup::dead(&area[a..b], m, y)
 }
 
 // The dead place y gets the page x and comes before f, which `find` gave.

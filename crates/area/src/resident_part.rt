@@ -34,6 +34,15 @@ pub fn last(area: &[u64], c: usize, i: usize) -> usize
     residents::last(&area[43..b], c, i)
 }
 
+// The cell after slot e: the next slot of its list, or, past the last of list i, c + i.
+pub fn next(area: &[u64], c: usize, e: usize) -> usize
+    requires { ⌜ Fit c (now area) (e < c) ⌝ }
+    ensures { λ r. ⌜ r ≡ nextOf (linksOf c (residentsIn c (now (area .entry)))) e ⌝ }
+{
+    let b = 5 * c + 52;
+    residents::next(&area[43..b], c, e)
+}
+
 // The frame, the list number and the reference bit of slot e.
 pub fn frame(area: &[u64], c: usize, e: usize) -> u64
     requires { ⌜ Fit c (now area) (e < c) ⌝ }

@@ -34,6 +34,9 @@ sentinel-in w c i h = let l : i < 3 = h .list in in-below (linksOf c w) (c + 2) 
 pub asks-list : (w : List ℕ) (c i : ℕ) → HasList w c i → Tail w (3 + 3 * c) (In (tailOf (3 + 3 * c) w) (c + i))
 asks-list w c i h = record { within = h .room .head; can = sentinel-in w c i h }
 
+pub asks-slot : (w : List ℕ) (c e : ℕ) → HasSlot w c e → Tail w (3 + 3 * c) (In (tailOf (3 + 3 * c) w) e)
+asks-slot w c e h = let l : e < c = h .slot in record { within = h .room .head; can = in-below (linksOf c w) (c + 2) e (h .room .links) (omega arith) }
+
 pub asks-walk : (w : List ℕ) (c i : ℕ) → HasList w c i → Tail w (3 + 3 * c) (CanWalk (tailOf (3 + 3 * c) w) c (c + i))
 asks-walk w c i h = record { within = h .room .head; can = record { high = omega arith; root = sentinel-in w c i h } }
 

@@ -42,6 +42,15 @@ pub fn last(w: &[u64], c: usize, i: usize) -> usize
     tails::prev(w, a, s)
 }
 
+// The cell after slot e: the next slot of its list, or, past the last, the sentinel of the list.
+pub fn next(w: &[u64], c: usize, e: usize) -> usize
+    requires { ⌜ HasSlot (now w) c e ⌝ }
+    ensures { λ r. ⌜ r ≡ nextOf (linksOf c (now (w .entry))) e ⌝ }
+{
+    let a = 3 + 3 * c;
+    tails::next(w, a, e)
+}
+
 // The frame, the list number and the reference bit of slot e.
 pub fn frame(w: &[u64], c: usize, e: usize) -> u64
     requires { ⌜ HasSlot (now w) c e ⌝ }

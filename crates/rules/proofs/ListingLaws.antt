@@ -65,12 +65,12 @@ all-below c (x ∷ l) h =
     let yes : ltb x c ≡ true = by-test (λ b. ltb x c ≡ b → b ≡ true) (ltb x c) (λ _ _. refl) (λ _ e. absurd (omega (arith, h x (ltb-false x c e), one-self x))) refl in
     omega (arith, from-more 0 c x l, all-free x c, ap one yes)
 
-pub car-listing : (s : Car) → Car.WellFormed s → length (Car.listing s) ≡ residents (s .lists)
+pub car-listing : (s : Car) → Car.Obeys s → length (Car.listing s) ≡ residents (s .lists)
 unfolding Car.listing
-car-listing s w =
+car-listing s o =
     let a = s .lists .T1 in
     let b = s .lists .T2 in
-    let each : (k : ℕ) → times k (slots (a ++ b)) ≤ one (ltb k (s .lists .c)) = λ k. omega (arith, times-keys-append slotOf k a b, w .obeys .slotted k) in
+    let each : (k : ℕ) → times k (slots (a ++ b)) ≤ one (ltb k (s .lists .c)) = λ k. omega (arith, times-keys-append slotOf k a b, o .slotted k) in
     let below : (k : ℕ) → s .lists .c ≤ k → times k (slots (a ++ b)) ≡ 0 = λ k g. omega (arith, each k, ap one (le-ltb k (s .lists .c) g)) in
     by-slot 0 (s .lists .c) (a ++ b) (λ k. omega (arith, each k, one-le (ltb k (s .lists .c))))
     ∙ (all-below (s .lists .c) (slots (a ++ b)) below ∙ (length-map slotOf (a ++ b) ∙ length-append a b))

@@ -4,6 +4,7 @@ use Rattle.store.proofs.Slots.{slot-fits, place-fits, resident-fits, fr
 use Rattle.store.proofs.Finding.{may-look, finds-slot, finds-recent, finds-frequent, finds-nowhere}
 use Rattle.store.proofs.Ghosts.{first-place, second-place, ghost-low, forget-takes, forget-left, oldest-low, oldest-left, listed-is, recorded-is}
 use Rattle.store.proofs.Ends.{first-is, last-is}
+use Rattle.store.proofs.Order.{start-is, next-is, taken-no, taken-yes}
 
 pub ruleset laws = (
   slot-fits,
@@ -36,5 +37,9 @@ pub ruleset laws = (
   recorded-is,
   first-is,
   last-is,
+  start-is,
+  next-is,
+  taken-no,
+  taken-yes,
   needs,
 )

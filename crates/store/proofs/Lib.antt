@@ -4,6 +4,7 @@ pub mod Slots
 pub mod Finding
 pub mod Ghosts
 pub mod Ends
+pub mod Order
 pub mod Evicting
 pub mod Entering
 pub mod Laws

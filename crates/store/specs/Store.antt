@@ -2,14 +2,14 @@
 use mathlib.Core.Path.{_≡_}
 use mathlib.Core.List.{List, _∷_}
 use mathlib.Core.Option.{some, none}
-use Prim.Native.Nat.{ℕ, _<_}
-use lib.ListN.{length, drop}
+use Prim.Native.Nat.{ℕ, suc, _+_, _<_}
+use lib.ListN.{length, getD, drop}
 use Rattle.rules.specs.Lists.{last}
 use Rattle.rules.specs.State.{Side, first, second, list, ghosts, resident}
 use Rattle.rules.specs.Calls.{ghost, nowhere}
 use Rattle.rules.specs.Ghosts.{dropOldest}
 use Rattle.rules.specs.Stages.{placeOf}
-use Rattle.rules.specs.Car.{Car, car}
+use Rattle.rules.specs.Car.{Car, car, slots}
 use Rattle.rings.specs.Members.{Mem}
 use Rattle.residents.specs.Residents.{listsOf}
 use Rattle.ghosts.specs.Ghosts.{liveOf}
@@ -75,6 +75,13 @@ pub record FirstIs (c : ℕ) (w : List ℕ) (i e : ℕ) : Type 0 where
 pub record LastIs (c : ℕ) (w : List ℕ) (i e : ℕ) : Type 0 where
   pub slot : HasSlot c w i e
   pub last : last (list (sideOf i) (stateIn c w .lists)) ≡ some (residentAt e (stateIn c w))
+
+-- the slots of T1 (i = 0) or T2 (i = 1), first to last; the slot after e, where e stands in list i at place j, or past the last c + i
+abbrev pub slotsAt : ℕ → ℕ → List ℕ → List ℕ
+slotsAt i c w = slots (list (sideOf i) (stateIn c w .lists))
+
+pub record NextIs (c : ℕ) (w : List ℕ) (e r : ℕ) : Type 0 where
+  pub next : (i j : ℕ) → i < 2 → j < length (slotsAt i c w) → getD (slotsAt i c w) j 0 ≡ e → r ≡ getD (slotsAt i c w) (suc j) (c + i)
 
 -- the ghost list of a side has a page; its oldest leaves
 pub record HasOldest (c : ℕ) (w : List ℕ) (i : ℕ) : Type 0 where

@@ -3,14 +3,15 @@
 // No policy is known here, and no link.
 ghost use mathlib.Core.Path.{_≡_};
 ghost use Prim.Native.Nat.{_+_, _<_, _≤_};
-ghost use lib.Dec.{eqb};
-ghost use lib.ListN.{length};
+ghost use lib.Dec.{eqb, ltb};
+ghost use lib.ListN.{length, getD};
 ghost use Rattle.rules.specs.State.{list, ghosts};
+ghost use Rattle.rules.specs.Car.{taken as slotTaken};
 ghost use Rattle.parts.specs.States.{residentAt, framedAt, markedAt, aimedAt, frontedAt, endedAt, removedAt, evictedAt, forgotAt, enteredAtFront, enteredAtEnd};
 ghost use Rattle.parts.specs.Parts.{ghostPlace};
 ghost use Rattle.area.specs.Area.{sideOf};
 ghost use Rattle.area.specs.Stored.{Stored, stateIn, Left};
-ghost use Rattle.store.specs.Store.{HasSlot, IsSlot, HasGhost, FoundIs, Evicts, CanEnter, HasSome, FirstIs, LastIs, HasOldest, droppedAt, Leaves};
+ghost use Rattle.store.specs.Store.{HasSlot, IsSlot, HasGhost, FoundIs, Evicts, CanEnter, HasSome, FirstIs, LastIs, slotsAt, NextIs, HasOldest, droppedAt, Leaves};
 
 // Where a page is: a resident by its slot, a ghost of B1 (`Recent`) or of B2 (`Frequent`) by its cell, or in no list.
 pub enum Found {
@@ -96,6 +97,33 @@ pub fn last(a: &[u64], c: usize, i: usize) -> usize
     ensures { λ r. ⌜ LastIs c (now (a .entry)) i r ⌝ }
 {
     area::resident_part::last(a, c, i)
+}
+
+// The slots of a list one after the other: the first, and the one after e; past the last of list i comes the number c + i, which is no slot.
+pub fn start(a: &[u64], c: usize, i: usize) -> usize
+    requires { ⌜ Stored c (now a) × (i < 2) ⌝ }
+    ensures { λ r. ⌜ r ≡ getD (slotsAt i c (now (a .entry))) 0 (c + i) ⌝ }
+{
+    area::resident_part::first(a, c, i)
+}
+
+pub fn next(a: &[u64], c: usize, e: usize) -> usize
+    requires { ⌜ IsSlot c (now a) e ⌝ }
+    ensures { λ r. ⌜ NextIs c (now (a .entry)) e r ⌝ }
+{
+    area::resident_part::next(a, c, e)
+}
+
+// Whether slot e holds a resident.
+pub fn taken(a: &[u64], c: usize, e: usize) -> bool
+    requires { ⌜ Stored c (now a) × (e < c) ⌝ }
+    ensures { λ r. ⌜ r ≡ ltb 0 (slotTaken e (stateIn c (now (a .entry)) .lists)) ⌝ }
+{
+    if area::lookup_part::dead(a, c, e) {
+        false
+    } else {
+        true
+    }
 }
 
 // The target is t.

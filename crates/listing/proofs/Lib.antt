@@ -1,0 +1,7 @@
+-- The laws of a listing. Assumes nothing.
+pub mod Rising
+pub mod Joined
+pub mod Slots
+pub mod Records
+pub mod Laws
+pub mod Finish
