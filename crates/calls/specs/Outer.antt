@@ -4,9 +4,12 @@ use mathlib.Core.List.{List}
 use mathlib.Core.Option.{none}
 use Prim.Native.Nat.{ℕ}
 use lib.ListN.{length, drop}
-use Rattle.rules.specs.Calls.{Call, Question, Ask, Answer, Made, Done, done}
+use Rattle.rules.specs.Calls as rules
+use Rattle.rules.specs.Calls.{Call, Question, Ask, Answer, Done, done}
 use Rattle.rules.specs.Public.{wordsNeeded, made, called}
 use Rattle.area.specs.Area.{capacityOf}
+use Rattle.fresh.specs.declared.Made as declared
+use Rattle.fresh.specs.declared.Made.the-variants.{Made, Refused}
 use Rattle.calls.specs.Policy.{Policy, reads}
 
 module _ (P : Policy) where
@@ -27,4 +30,9 @@ module _ (P : Policy) where
     pub is : done a (reads P v) ≡ made (P .new) c (length w) (reads P w)
     pub size : length v ≡ length w
     pub rest : drop (wordsNeeded c) v ≡ drop (wordsNeeded c) w
-    pub refused : (a ≡ Made → ⊥) → v ≡ w
+    pub refused : (a ≡ rules.Made → ⊥) → v ≡ w
+
+-- 01's number for each case of what `new` answers
+abbrev pub madeIs : declared.Made → Answer
+madeIs Made = rules.Made
+madeIs (Refused n) = rules.Refused n

@@ -1,0 +1,64 @@
+-- Calls one after the other. In order: what words read as; a question is a call that leaves the area; a call keeps the capacity. Assumes nothing.
+use mathlib.Core.Path.{_≡_, refl, sym, subst, ap, _∙_}
+use mathlib.Core.Bool.{Bool, true, false, cond}
+use mathlib.Core.List.{List}
+use mathlib.Core.Option.{Option, some, none}
+use Prim.Native.Nat.{ℕ, _^_, _<_}
+use native.Mathlib.Omega.{arith}
+use lib.ListN.{length, drop, getD}
+use Rattle.rules.specs.Calls.{Call, Question, Capacity, Ask, Answer, Number, done}
+use Rattle.rules.specs.Public.{called}
+use Rattle.parts.specs.Parts as parts
+use Rattle.area.specs.Area.{capacityOf}
+use Rattle.area.specs.Stored.{stateIn}
+use Rattle.state_check.specs.Check.{stateTest}
+use Rattle.calls.specs.Policy.{Policy, stateOf, reads}
+use Rattle.calls.specs.Outer.{Outcome, Told}
+use Rattle.calls.proofs.Exact.{Exact}
+
+module _ (P : Policy) where
+  -- words that read as s have passed the test, and s is what they hold
+  pub reads-is : (w : List ℕ) (s : P .State) → reads P w ≡ some s → (stateTest (P .kind) w ≡ true) × (stateOf P (capacityOf w) w ≡ s)
+  unfolding reads
+  reads-is w s = by (stateTest (P .kind) w) refl
+    where
+      by : (t : Bool) → stateTest (P .kind) w ≡ t → cond t (some (stateOf P (capacityOf w) w)) none ≡ some s → (stateTest (P .kind) w ≡ true) × (stateOf P (capacityOf w) w ≡ s)
+      by true q e = (q, cc)
+      by false q e = absurd (let z : _≡_ {A = ℕ} 0 1 = cc in let x : ⊥ = omega arith in x)
+
+  -- and s is well formed
+  pub reads-well : Exact P → (w : List ℕ) (s : P .State) → ((i : ℕ) → getD w i 0 < 2 ^ 64) → reads P w ≡ some s → P .WellFormed s
+  reads-well e w s words r = let q = reads-is w s r in subst (P .WellFormed) (q .1) (e .sound w words (q .0))
+
+  -- its capacity is that of the header
+  reads-capacity : Exact P → (w : List ℕ) (s : P .State) → reads P w ≡ some s → P .does (Ask Capacity) s .answer ≡ Number (capacityOf w)
+  unfolding stateIn parts.stateOf
+  reads-capacity e w s r = let q = reads-is w s r in subst (λ t. P .does (Ask Capacity) t .answer ≡ Number (capacityOf w)) (q .1) (e .capacity (stateIn (capacityOf w) w))
+
+  -- A CALL ON A STATE answers and leaves what the rules say
+  pub outcome-is : (k : Call) (w v : List ℕ) (a : Answer) (s : P .State) → Outcome P k w v a → reads P w ≡ some s → (a ≡ P .does k s .answer) × (reads P v ≡ some (P .does k s .state))
+  unfolding called
+  outcome-is k w v a s o r =
+      let q : done a (reads P v) ≡ done (P .does k s .answer) (some (P .does k s .state)) = o .is ∙ rw r refl in
+      (ap (λ d. d .answer) q, ap (λ d. d .state) q)
+
+  -- A QUESTION is a call that leaves the area as it is
+  pub told-outcome : Exact P → (q : Question) (w : List ℕ) (a : Answer) → Told P q w a → Outcome P (Ask q) w w a
+  unfolding called
+  told-outcome e q w a t = record { is = by (reads P w) (t .answer); size = refl; rest = refl; refused = λ n. refl }
+    where
+      by : (o : Option (P .State)) → a ≡ called (P .does) (Ask q) o .answer → done a o ≡ called (P .does) (Ask q) o
+      by none x = rw x refl
+      by (some s) x = rw (x, e .asks q s) refl
+
+  -- READ BACK: a call keeps the capacity
+  pub read-back : Exact P → (k : Call) (w v : List ℕ) (a : Answer) → Outcome P k w v a → capacityOf v ≡ capacityOf w
+  read-back e k w v a o = by (reads P w) refl
+    where
+      by : (r : Option (P .State)) → reads P w ≡ r → capacityOf v ≡ capacityOf w
+      by none q = ap capacityOf (o .refused q)
+      by (some s) q =
+          let x = reads-capacity e v (P .does k s .state) (outcome-is k w v a s o q .1) in
+          let y = reads-capacity e w s q in
+          let z = e .keeps k s in
+          cc

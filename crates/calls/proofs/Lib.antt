@@ -1,0 +1,7 @@
+-- The laws of the calls, over the policy. Assumes nothing.
+pub mod Capacity
+pub mod Exact
+pub mod Reading
+pub mod Same
+pub mod Passing
+pub mod Chain

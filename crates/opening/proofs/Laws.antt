@@ -1,0 +1,29 @@
+-- What answers the needs of `open`. Assumes nothing.
+use mathlib.Core.Path.{_≡_, refl, sym, _∙_}
+use mathlib.Core.Bool.{Bool, true, false}
+use mathlib.Core.List.{List}
+use Prim.Native.Nat.{ℕ, _+_, _*_, _^_, _<_, _≤_}
+use native.Mathlib.Omega.{arith}
+use lib.ListN.{length, getD}
+use borrow.Author.Needs.{needs}
+use Rattle.parts.specs.Parts as parts
+use Rattle.area.specs.Area.{capacityOf, endAt}
+use Rattle.area.specs.Stored.{stateIn}
+use Rattle.state_check.specs.Check.{stateTest}
+use Rattle.state_check.proofs.State.{state-writes}
+use Rattle.opening.specs.Opening.{Holding, Opens}
+use Rattle.opening.specs.declared.Opened.the-variants.{Cache, Refused}
+
+module _ (kind : ℕ) (w : List ℕ) (b : Bool) (is : b ≡ stateTest kind w) where
+  -- words that pass have a header
+  pub has-header : b ≡ true → 1 < length w
+  unfolding stateIn parts.stateOf
+  has-header q = let s : endAt (capacityOf w) ≤ length w = state-writes kind w (sym is ∙ q) .stored .size in omega arith
+
+  pub opens : b ≡ true → ((i : ℕ) → getD w i 0 < 2 ^ 64) → Opens kind w (Cache (getD w 1 0))
+  opens q words = record { test = sym is ∙ q; words = words; capacity = refl }
+
+  pub refuses : b ≡ false → Opens kind w Refused
+  refuses q = sym is ∙ q
+
+pub ruleset laws = (has-header, opens, refuses, needs)

@@ -1,0 +1,2 @@
+-- The laws of `open`, and those by which a public call closes. Assumes nothing.
+pub mod Laws

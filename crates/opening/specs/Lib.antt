@@ -1,0 +1,2 @@
+-- The definitions that the contract of `open` cites. Assumes nothing.
+pub mod Opening
