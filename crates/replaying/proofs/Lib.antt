@@ -1,0 +1,3 @@
+-- The laws of `replaying`. Assumes nothing.
+pub mod Batches
+pub mod Pieces
