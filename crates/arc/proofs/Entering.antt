@@ -25,10 +25,11 @@ use Rattle.area.specs.Area.{partsOf, sideOf}
 use Rattle.area.specs.Stored.{Stored, stateIn, Left, arcOf}
 use Rattle.store.specs.Store.{HasGhost, CanEnter}
 use Rattle.arc.specs.declared.Victim as declared
-use Rattle.arc.specs.declared.Inserted.{Inserted}
-use Rattle.arc.specs.declared.Inserted.the-variants.{New as InsertedNew, Out as InsertedOut}
-use Rattle.arc.specs.Inner.{arcIn, ofInserted}
-use Rattle.arc.specs.Inserting.{Stage, CanReplace, Puts}
+use Rattle.answers.specs.Answers.{insertedIs, placeIs, placeOfList}
+use Rattle.answers.specs.declared.Inserted.{Inserted}
+use Rattle.answers.specs.declared.Inserted.the-variants.{New as InsertedNew, Out as InsertedOut}
+use Rattle.answers.specs.declared.Place as answers
+use Rattle.arc.specs.Inserting.{arcIn, Stage, CanReplace, Puts}
 use Rattle.arc.specs.Insert.{HasRoom, made, Makes, CanCome, Admits, Comes, Enters, Hits}
 use Rattle.arc.proofs.Trimming.{t1-is, t2-is, staged, as-stage}
 use Rattle.arc.proofs.Hitting.{then-staged}
@@ -86,8 +87,8 @@ module _ (c : ℕ) (w : List ℕ) (h : HasRoom c w) (hit : Bool) (n : ℕ) (p : 
         fewer = λ y. omega arith;
       }
 
-  pub room-made : c ≤ n → (v : List ℕ) (r : declared.Victim) → Puts hit c w v r → Makes c w v hit (InsertedOut (r .page) (r .frame) (r .side))
-  room-made l v r d =
+  pub room-made : c ≤ n → (v : List ℕ) (r : declared.Victim) → Puts hit c w v r → (k : answers.Place) → placeIs k ≡ placeOfList (r .side) → Makes c w v hit (InsertedOut (r .page) (r .frame) k 1)
+  room-made l v r d k q =
       let some : 1 ≤ residents (arcIn c w) = (let z : 0 < c = h .some in omega arith) in
       let z : full (arcIn c w) ≡ true = le-leb (arcIn c w .c) (residents (arcIn c w)) (omega (arith, arc-c c w)) in
       let e : arcIn c v ≡ replace hit (arcIn c w) .state = sym (ap (λ (t : Replaced Arc). t .state) (d .reads)) in
@@ -95,7 +96,7 @@ module _ (c : ℕ) (w : List ℕ) (h : HasRoom c w) (hit : Bool) (n : ℕ) (p : 
       let less : residents (arcIn c w) ≡ residents (arcIn c v) + 1 = s .less ∙ ap (λ (t : Arc). residents t + 1) (sym e) in
       record {
         left = record { stored = d .stored; reads = rw z e; kind = d .kind; size = d .size; rest = d .rest };
-        answer = rw (z, d .reads) refl;
+        answer = rw (z, d .reads, q) refl;
         room = free-slot c v (d .stored) (omega (arith, less, arc-sound c w (h .stored) .room, arc-c c w));
         fewer = λ y. rw e (s .fewer y);
       }
@@ -111,7 +112,7 @@ absent-resident x s h = go (resident x s) refl
 absent-place : (x : ℕ) (s : Lists Clocked) → seen x s ≡ 0 → placeOf x s ≡ nowhere
 absent-place x s h = rw (le-ltb 0 (times x (s .B1)) (omega arith), le-ltb 0 (times x (s .B2)) (omega arith)) refl
 
-module _ (c : ℕ) (w : List ℕ) (j x f : ℕ) (h : CanCome c w j x f) where
+module _ (c : ℕ) (w : List ℕ) (j x : ℕ) (h : CanCome c w j x) where
   pub enter-room : HasRoom c w
   enter-room = h .can
 
@@ -119,11 +120,11 @@ module _ (c : ℕ) (w : List ℕ) (j x f : ℕ) (h : CanCome c w j x f) where
     none-after : seen x (stateIn c v .lists) ≡ 0
     none-after = omega (arith, m .fewer x, h .absent, seen-plainly x (stateIn c v))
 
-    pub enter-can : CanEnter c v x f 0
-    enter-can = record { stored = m .left .stored; room = m .room; fresh = absent-resident x (stateIn c v .lists) none-after; unrecorded = absent-place x (stateIn c v .lists) none-after; frame = h .frame; bit = omega arith }
+    pub enter-can : CanEnter c v x 0
+    enter-can = record { stored = m .left .stored; room = m .room; fresh = absent-resident x (stateIn c v .lists) none-after; unrecorded = absent-place x (stateIn c v .lists) none-after; bit = omega arith }
 
-    pub enter-admits : (u : List ℕ) → Left c v u (enteredAtFront (sideOf j) x f (eqb 0 1) (stateIn c v)) → Admits c w u j x f hit r
-    enter-admits u l =
+    pub enter-admits : (f : ℕ) (u : List ℕ) → Left c v u (enteredAtFront (sideOf j) x f (eqb 0 1) (stateIn c v)) → Admits c w u j x f hit r
+    enter-admits f u l =
         record {
           left = then-staged c w v u (made c w hit .state) (admitted (sideOf j) x f (made c w hit .state)) (m .left)
               (staged c v u (enteredAtFront (sideOf j) x f (eqb 0 1) (stateIn c v)) (admitted (sideOf j) x f (made c w hit .state)) l
@@ -139,7 +140,7 @@ module _ (c : ℕ) (w v u : List ℕ) (s : Arc) (l : Stage c w v s) (x f : ℕ) 
       (as-stage c v u (admitted (sideOf j) x f (made c v hit .state)) (admitted (sideOf j) x f (replaceIf (full s) (replace hit) s .state)) (m .left)
       (ap (λ (t : Arc). admitted (sideOf j) x f (replaceIf (full t) (replace hit) t .state)) (l .reads)))
 
-  told : (j : ℕ) → Admits c v u j x f hit r → ofInserted r ≡ New (replaceIf (full s) (replace hit) s .victim) (steps (replaceIf (full s) (replace hit) s))
+  told : (j : ℕ) → Admits c v u j x f hit r → insertedIs r ≡ New (replaceIf (full s) (replace hit) s .victim) (steps (replaceIf (full s) (replace hit) s))
   told j m = m .answer ∙ ap (λ (t : Arc). New (replaceIf (full t) (replace hit) t .victim) (steps (replaceIf (full t) (replace hit) t))) (l .reads)
 
 -- ---- the miss
@@ -153,45 +154,44 @@ trimmed-fewer : (x : ℕ) (s : Arc) → seen x (trimmed s) ≤ seen x s
 unfolding trimmed
 trimmed-fewer x s = trim-fewer (leb (s .c) (length (s .T1) + length (s .B1))) (leb (2 * s .c) (inAll s)) x s
 
-module _ (c : ℕ) (w : List ℕ) (x f : ℕ) (h : Comes c w nowhere x f) (v : List ℕ) (l : Stage c w v (trimmed (arcIn c w))) where
-  pub miss-can : CanCome c v 0 x f
+module _ (c : ℕ) (w : List ℕ) (x : ℕ) (h : Comes c w nowhere x) (v : List ℕ) (l : Stage c w v (trimmed (arcIn c w))) where
+  pub miss-can : CanCome c v 0 x
   miss-can =
       let a : seen x (arcIn c w) ≡ 0 = ready-none x (arcIn c w) (h .place) (h .fresh) (arc-sound c w (h .can .stored)) .absent in
       let q : seen x (arcIn c v) ≡ seen x (trimmed (arcIn c w)) = ap (seen x) (l .reads) in
-      record { can = record { stored = l .stored; some = h .can .some }; side = omega arith; absent = omega (arith, trimmed-fewer x (arcIn c w)); frame = h .frame }
+      record { can = record { stored = l .stored; some = h .can .some }; side = omega arith; absent = omega (arith, trimmed-fewer x (arcIn c w)) }
 
-  pub miss-enters : (u : List ℕ) (r : Inserted) → Admits c v u 0 x f false r → Enters c w u nowhere x f r
+  pub miss-enters : (f : ℕ) (u : List ℕ) (r : Inserted) → Admits c v u 0 x f false r → Enters c w u nowhere x f r
   unfolding insertAt roomFor missed
-  miss-enters u r m = record { left = after c w v u (trimmed (arcIn c w)) l x f false r 0 m; answer = told c w v u (trimmed (arcIn c w)) l x f false r 0 m }
+  miss-enters f u r m = record { left = after c w v u (trimmed (arcIn c w)) l x f false r 0 m; answer = told c w v u (trimmed (arcIn c w)) l x f false r 0 m }
 
 -- ---- the ghost hits
-module _ (i : Side) (c : ℕ) (w : List ℕ) (g x f : ℕ) (h : Hits c w i g x f) where
+module _ (i : Side) (c : ℕ) (w : List ℕ) (g x : ℕ) (h : Hits c w i g x) where
   pub back-cell : HasGhost c w i g x
   back-cell = h .cell
 
   module _ (v : List ℕ) (l : Stage c w v (ghostHit i x (arcIn c w))) where
-    pub back-can : (j : ℕ) → j < 2 → CanCome c v j x f
+    pub back-can : (j : ℕ) → j < 2 → CanCome c v j x
     back-can j b =
         record {
           can = record { stored = l .stored; some = h .comes .can .some };
           side = b;
           absent = ap (seen x) (l .reads) ∙ ready x (arcIn c w) i (h .comes .place) (h .comes .fresh) (arc-sound c w (h .cell .stored)) .0 .absent;
-          frame = h .comes .frame;
         }
 
-    back-enters : (u : List ℕ) (r : Inserted) → Admits c v u 1 x f (isB2 i) r → Enters c w u (ghost i) x f r
+    back-enters : (f : ℕ) (u : List ℕ) (r : Inserted) → Admits c v u 1 x f (isB2 i) r → Enters c w u (ghost i) x f r
     unfolding insertAt roomFor
-    back-enters u r m = record { left = after c w v u (ghostHit i x (arcIn c w)) l x f (isB2 i) r 1 m; answer = told c w v u (ghostHit i x (arcIn c w)) l x f (isB2 i) r 1 m }
+    back-enters f u r m = record { left = after c w v u (ghostHit i x (arcIn c w)) l x f (isB2 i) r 1 m; answer = told c w v u (ghostHit i x (arcIn c w)) l x f (isB2 i) r 1 m }
 
 module _ (c : ℕ) (w : List ℕ) (g x f : ℕ) where
-  pub back-first : (h : Hits c w first g x f) (v : List ℕ) → Stage c w v (ghostHit first x (arcIn c w)) → (u : List ℕ) (r : Inserted) → Admits c v u 1 x f false r → Enters c w u (ghost first) x f r
-  back-first h v l u r m = back-enters first c w g x f h v l u r m
+  pub back-first : (h : Hits c w first g x) (v : List ℕ) → Stage c w v (ghostHit first x (arcIn c w)) → (u : List ℕ) (r : Inserted) → Admits c v u 1 x f false r → Enters c w u (ghost first) x f r
+  back-first h v l u r m = back-enters first c w g x h v l f u r m
 
-  pub back-second : (h : Hits c w second g x f) (v : List ℕ) → Stage c w v (ghostHit second x (arcIn c w)) → (u : List ℕ) (r : Inserted) → Admits c v u 1 x f true r → Enters c w u (ghost second) x f r
-  back-second h v l u r m = back-enters second c w g x f h v l u r m
+  pub back-second : (h : Hits c w second g x) (v : List ℕ) → Stage c w v (ghostHit second x (arcIn c w)) → (u : List ℕ) (r : Inserted) → Admits c v u 1 x f true r → Enters c w u (ghost second) x f r
+  back-second h v l u r m = back-enters second c w g x h v l f u r m
 
-pub comes-room : (c : ℕ) (w : List ℕ) (p : Place) (x f : ℕ) → Comes c w p x f → HasRoom c w
-comes-room c w p x f h = h .can
+pub comes-room : (c : ℕ) (w : List ℕ) (p : Place) (x : ℕ) → Comes c w p x → HasRoom c w
+comes-room c w p x h = h .can
 
 pub room-stored : (c : ℕ) (w : List ℕ) → HasRoom c w → Stored c w
 room-stored c w h = h .stored

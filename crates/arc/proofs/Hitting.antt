@@ -13,8 +13,7 @@ use Rattle.parts.specs.Parts.{stateOf}
 use Rattle.parts.specs.States.{aimedAt, forgotAt}
 use Rattle.area.specs.Area.{targetOf, endAt, partsOf}
 use Rattle.area.specs.Stored.{Stored, stateIn, Left, arcOf}
-use Rattle.arc.specs.Inner.{arcIn}
-use Rattle.arc.specs.Inserting.{Stage}
+use Rattle.arc.specs.Inserting.{arcIn, Stage}
 use Rattle.arc.proofs.Trimming.{staged, as-stage, forgot-plainly, aimed-plainly}
 
 pub then-staged : (c : ℕ) (w v u : List ℕ) (s t : Arc) → Stage c w v s → Stage c v u t → Stage c w u t

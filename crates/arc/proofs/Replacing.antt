@@ -25,8 +25,7 @@ use Rattle.area.specs.Stored.{Stored, stateIn, Left, plainly, arcOf}
 use Rattle.store.specs.Store.{HasSlot, HasSome, LastIs, Evicts}
 use Rattle.store.specs.declared.Out.{Out}
 use Rattle.arc.specs.declared.Victim.{Victim}
-use Rattle.arc.specs.Inner.{arcIn}
-use Rattle.arc.specs.Inserting.{Turns, CanReplace, Puts}
+use Rattle.arc.specs.Inserting.{arcIn, Turns, CanReplace, Puts}
 use Rattle.arc.proofs.Plain.{plainlyIf, without-plainly}
 
 -- ---- the list to replace from

@@ -19,8 +19,7 @@ use Rattle.parts.proofs.Reading.{state-sound}
 use Rattle.area.specs.Area.{targetOf, endAt, sideOf, partsOf}
 use Rattle.area.specs.Stored.{Stored, stateIn, Left, plainly, arcOf}
 use Rattle.store.specs.Store.{HasGhost, HasOldest, droppedAt}
-use Rattle.arc.specs.Inner.{arcIn}
-use Rattle.arc.specs.Inserting.{Stage}
+use Rattle.arc.specs.Inserting.{arcIn, Stage}
 
 -- ---- stages
 pub staged : (c : ℕ) (w v : List ℕ) (s : Car) (t : Arc) → Left c w v s → arcOf s ≡ t → Stage c w v t

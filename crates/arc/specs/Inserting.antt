@@ -9,9 +9,12 @@ use Rattle.rules.specs.Calls.{ghost, out, replaced}
 use Rattle.rules.specs.Stages.{fromT1, side}
 use Rattle.rules.specs.Arc.{Arc, replace}
 use Rattle.area.specs.Area.{kindOf, endAt, sideOf}
-use Rattle.area.specs.Stored.{Stored}
+use Rattle.area.specs.Stored.{Stored, stateIn, arcOf}
 use Rattle.arc.specs.declared.Victim.{Victim}
-use Rattle.arc.specs.Inner.{arcIn}
+
+-- the state of ARC that an area of capacity c is read as
+abbrev pub arcIn : ℕ → List ℕ → Arc
+arcIn c w = arcOf (stateIn c w)
 
 -- an area that reads as s, of the same kind and length, and with nothing past the area's need changed
 pub record Stage (c : ℕ) (w v : List ℕ) (s : Arc) : Type 0 where

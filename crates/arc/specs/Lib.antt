@@ -1,4 +1,3 @@
 -- The definitions that the contracts of `arc` cite. Assumes nothing.
-pub mod Inner
 pub mod Inserting
 pub mod Insert

@@ -1,7 +1,7 @@
 -- A new resident enters T1 or T2. In order: what the calls ask; what they leave, at the front and at the end. Assumes nothing.
 use mathlib.Core.Path.{_≡_, refl}
 use mathlib.Core.List.{List}
-use Prim.Native.Nat.{ℕ, _<_}
+use Prim.Native.Nat.{ℕ, _^_, _<_}
 use lib.Dec.{eqb}
 use lib.ListN.{length}
 use Rattle.residents.specs.Changes.{topOf, addedFront, addedEnd, CanAdd}
@@ -21,7 +21,7 @@ use Rattle.store.specs.Store.{CanEnter}
 use Rattle.store.proofs.Steps.{number-of, lookup-after, fits-after, became-as, then-lookup}
 use Rattle.store.proofs.Finding.{held-nowhere}
 
-module _ (c : ℕ) (w : List ℕ) (j x f b : ℕ) (t : CanEnter c w x f b) (hj : j < 2) where
+module _ (c : ℕ) (w : List ℕ) (j x b : ℕ) (t : CanEnter c w x b) (hj : j < 2) where
   some : 0 < length (slotsOf c (partsOf c w) 2)
   unfolding stateIn stateOf
   some = t .room
@@ -51,17 +51,17 @@ module _ (c : ℕ) (w : List ℕ) (j x f b : ℕ) (t : CanEnter c w x f b) (hj :
         (rw (q, d .answer) refl)
 
   -- ---- what they leave
-  module _ (place : ℕ) (q : place ≡ findOf (lookupIn c w) (placesOf c) (bucketsOf c) x) (v : List ℕ) (e : ℕ) where
+  module _ (place : ℕ) (q : place ≡ findOf (lookupIn c w) (placesOf c) (bucketsOf c) x) (v : List ℕ) (e f : ℕ) (hf : f < 2 ^ 32) where
     pub enter-front-left : Answered c w v e (topOf c (residentsIn c w)) (setResidents (addedFront c j f b (residentsIn c w)) (partsOf c w)) → (u : List ℕ) → Became c v u (setLookup (putIn (placesOf c) place e x (lookupIn c v)) (partsOf c v)) → Left c w u (enteredAtFront (sideOf j) x f (eqb b 1) (stateIn c w))
     unfolding partsOf stateIn enteredFront
     enter-front-left d u k =
         left c w u (enteredFront c j x f b (partsOf c w)) (enteredAtFront (sideOf j) x f (eqb b 1) (stateOf c (partsOf c w))) (t .stored)
         (enters place q v e (addedFront c j f b (residentsIn c w)) d u k)
-        (rw (number-of j hj) at (enteredFront-becomes c (partsOf c w) (t .stored .holds) some x f b (sideOf j) nowhere (t .frame) (t .bit)))
+        (rw (number-of j hj) at (enteredFront-becomes c (partsOf c w) (t .stored .holds) some x f b (sideOf j) nowhere hf (t .bit)))
 
     pub enter-end-left : Answered c w v e (topOf c (residentsIn c w)) (setResidents (addedEnd c j f b (residentsIn c w)) (partsOf c w)) → (u : List ℕ) → Became c v u (setLookup (putIn (placesOf c) place e x (lookupIn c v)) (partsOf c v)) → Left c w u (enteredAtEnd (sideOf j) x f (eqb b 1) (stateIn c w))
     unfolding partsOf stateIn enteredEnd
     enter-end-left d u k =
         left c w u (enteredEnd c j x f b (partsOf c w)) (enteredAtEnd (sideOf j) x f (eqb b 1) (stateOf c (partsOf c w))) (t .stored)
         (enters place q v e (addedEnd c j f b (residentsIn c w)) d u k)
-        (rw (number-of j hj) at (enteredEnd-becomes c (partsOf c w) (t .stored .holds) some x f b (sideOf j) nowhere (t .frame) (t .bit)))
+        (rw (number-of j hj) at (enteredEnd-becomes c (partsOf c w) (t .stored .holds) some x f b (sideOf j) nowhere hf (t .bit)))

@@ -1,6 +1,6 @@
 -- The laws of `store`, together. Assumes nothing.
 use borrow.Author.Needs.{needs}
-use Rattle.store.proofs.Slots.{slot-fits, place-fits, resident-fits, frame-reads, bit-reads, page-reads, frame-left, bit-left, front-left, end-left, remove-takes, remove-left, target-left}
+use Rattle.store.proofs.Slots.{slot-fits, place-fits, resident-fits, frame-reads, frame-fits, bit-reads, page-reads, frame-left, bit-left, front-left, end-left, remove-takes, remove-left, target-left}
 use Rattle.store.proofs.Finding.{may-look, finds-slot, finds-recent, finds-frequent, finds-nowhere}
 use Rattle.store.proofs.Ghosts.{first-place, second-place, ghost-low, forget-takes, forget-left, oldest-low, oldest-left, listed-is, recorded-is}
 use Rattle.store.proofs.Ends.{first-is, last-is}
@@ -10,6 +10,7 @@ pub ruleset laws = (
   place-fits,
   resident-fits,
   frame-reads,
+  frame-fits,
   bit-reads,
   page-reads,
   frame-left,

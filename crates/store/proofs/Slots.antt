@@ -13,6 +13,7 @@ use Rattle.parts.specs.Parts.{setTarget, setResidents, setLookup, residentOf}
 use Rattle.parts.specs.Changes.{framed, marked, toFront, toEnd, removed}
 use Rattle.parts.specs.States.{residentAt, framedAt, markedAt, aimedAt, frontedAt, endedAt, removedAt}
 use Rattle.parts.proofs.Reading.{resident-at}
+use Rattle.parts.proofs.Sizes.{frame-below}
 use Rattle.parts.proofs.Slots.{is-resident, has-slot}
 use Rattle.parts.proofs.Setting.{setTarget-becomes, framed-becomes, marked-becomes}
 use Rattle.parts.proofs.Moving.{toFront-becomes, toEnd-becomes}
@@ -53,6 +54,11 @@ module _ (c : ℕ) (w : List ℕ) (e : ℕ) (t : IsSlot c w e) where
   pub frame-reads : (r : ℕ) → r ≡ frameOf (residentsIn c w) e → r ≡ residentAt e (stateIn c w) .frame
   unfolding partsOf residentOf
   frame-reads r q = rw at-slot q
+
+  -- a frame is a u32
+  pub frame-fits : (r : ℕ) → r ≡ frameOf (residentsIn c w) e → r < 2 ^ 32
+  unfolding partsOf
+  frame-fits r q = rw q (frame-below c (partsOf c w) (t .slot .stored .holds) (t .number) e (t .slot .side) (t .slot .member))
 
   pub bit-reads : (r : ℕ) → r ≡ bitOf (residentsIn c w) c e → eqb r 1 ≡ residentAt e (stateIn c w) .more .bit
   unfolding partsOf residentOf

@@ -2,7 +2,7 @@
 use mathlib.Core.Path.{_≡_}
 use mathlib.Core.List.{List, _∷_}
 use mathlib.Core.Option.{some, none}
-use Prim.Native.Nat.{ℕ, _^_, _<_}
+use Prim.Native.Nat.{ℕ, _<_}
 use lib.ListN.{length, drop}
 use Rattle.rules.specs.Lists.{last}
 use Rattle.rules.specs.State.{Side, first, second, list, ghosts, resident}
@@ -55,12 +55,11 @@ pub record Evicts (c : ℕ) (w v : List ℕ) (e : ℕ) (o : Out) (s : Car) : Typ
   pub frame : o .frame ≡ residentAt e (stateIn c w) .frame
 
 -- a page may enter: a slot is free, and no list has the page
-pub record CanEnter (c : ℕ) (w : List ℕ) (x f b : ℕ) : Type 0 where
+pub record CanEnter (c : ℕ) (w : List ℕ) (x b : ℕ) : Type 0 where
   pub stored : Stored c w
   pub room : 0 < length (stateIn c w .free)
   pub fresh : resident x (stateIn c w .lists) ≡ none
   pub unrecorded : placeOf x (stateIn c w .lists) ≡ nowhere
-  pub frame : f < 2 ^ 32
   pub bit : b < 2
 
 -- the list of a side has a resident; slot e holds its first, or its last

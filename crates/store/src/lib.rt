@@ -2,7 +2,7 @@
 // capacity c, and leaves one; what it does to the state that the area reads as is said in the rules' own words (parts/specs/States.antt).
 // No policy is known here, and no link.
 ghost use mathlib.Core.Path.{_≡_};
-ghost use Prim.Native.Nat.{_+_, _^_, _<_, _≤_};
+ghost use Prim.Native.Nat.{_+_, _<_, _≤_};
 ghost use lib.Dec.{eqb};
 ghost use lib.ListN.{length};
 ghost use Rattle.rules.specs.State.{list, ghosts};
@@ -23,7 +23,7 @@ pub enum Found {
 // The victim of an eviction.
 pub struct Out {
     pub page: u64,
-    pub frame: u64,
+    pub frame: u32,
 }
 
 // Where the page x is.
@@ -62,11 +62,11 @@ pub fn recorded(a: &[u64], c: usize, i: usize) -> usize
 }
 
 // The frame, the bit and the page of the resident of slot e.
-pub fn frame(a: &[u64], c: usize, e: usize) -> u64
+pub fn frame(a: &[u64], c: usize, e: usize) -> u32
     requires { ⌜ IsSlot c (now a) e ⌝ }
     ensures { λ r. ⌜ r ≡ residentAt e (stateIn c (now (a .entry))) .frame ⌝ }
 {
-    area::resident_part::frame(a, c, e)
+    area::resident_part::frame(a, c, e) as u32
 }
 
 pub fn referenced(a: &[u64], c: usize, e: usize) -> bool
@@ -107,11 +107,11 @@ pub fn set_target(a: &mut [u64], c: usize, t: u64)
 }
 
 // The resident of slot e gets the frame f.
-pub fn set_frame(a: &mut [u64], c: usize, e: usize, f: u64)
-    requires { ⌜ IsSlot c (now a) e × (f < 2 ^ 32) ⌝ }
+pub fn set_frame(a: &mut [u64], c: usize, e: usize, f: u32)
+    requires { ⌜ IsSlot c (now a) e ⌝ }
     ensures { λ _. ⌜ Left c (now (a .entry)) (now (a .exit)) (framedAt e f (stateIn c (now (a .entry)))) ⌝ }
 {
-    area::resident_part::set_frame(a, c, e, f);
+    area::resident_part::set_frame(a, c, e, f as u64);
 }
 
 // Its reference bit is set to b.
@@ -211,26 +211,26 @@ pub fn evict(a: &mut [u64], c: usize, i: usize, e: usize) -> Out
     ensures { λ r. ⌜ Evicts c (now (a .entry)) (now (a .exit)) e r (evictedAt (sideOf i) e (stateIn c (now (a .entry)))) ⌝ }
 {
     let page = area::lookup_part::page(a, c, e);
-    let frame = area::resident_part::frame(a, c, e);
+    let frame = area::resident_part::frame(a, c, e) as u32;
     put_out(a, c, i, e);
     Out { page, frame }
 }
 
 // A new resident of page x, in the top free slot: at the front, or at the end, of T1 (j = 0) or T2 (j = 1).
-pub fn enter_front(a: &mut [u64], c: usize, j: usize, x: u64, f: u64, b: u64)
-    requires { ⌜ CanEnter c (now a) x f b × (j < 2) ⌝ }
+pub fn enter_front(a: &mut [u64], c: usize, j: usize, x: u64, f: u32, b: u64)
+    requires { ⌜ CanEnter c (now a) x b × (j < 2) ⌝ }
     ensures { λ _. ⌜ Left c (now (a .entry)) (now (a .exit)) (enteredAtFront (sideOf j) x f (eqb b 1) (stateIn c (now (a .entry)))) ⌝ }
 {
     let place = area::lookup_part::find(a, c, x);
-    let e = area::resident_part::add_front(a, c, j, f, b);
+    let e = area::resident_part::add_front(a, c, j, f as u64, b);
     area::lookup_part::put(a, c, place, e, x);
 }
 
-pub fn enter_end(a: &mut [u64], c: usize, j: usize, x: u64, f: u64, b: u64)
-    requires { ⌜ CanEnter c (now a) x f b × (j < 2) ⌝ }
+pub fn enter_end(a: &mut [u64], c: usize, j: usize, x: u64, f: u32, b: u64)
+    requires { ⌜ CanEnter c (now a) x b × (j < 2) ⌝ }
     ensures { λ _. ⌜ Left c (now (a .entry)) (now (a .exit)) (enteredAtEnd (sideOf j) x f (eqb b 1) (stateIn c (now (a .entry)))) ⌝ }
 {
     let place = area::lookup_part::find(a, c, x);
-    let e = area::resident_part::add_end(a, c, j, f, b);
+    let e = area::resident_part::add_end(a, c, j, f as u64, b);
     area::lookup_part::put(a, c, place, e, x);
 }

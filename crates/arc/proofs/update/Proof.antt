@@ -9,7 +9,7 @@ set-frame-requires : tie.Need-set-frame-requires
 set-frame-requires c κs = search laws
 
 to-front-requires : tie.Need-to-front-requires
-to-front-requires c κs = update-slot _ _ _ _ (c .before .before .before .before .before .before .before .before .pre .0) _ (c .before .before .before .set-frame .ensures)
+to-front-requires c κs = update-slot _ _ _ _ (c .before .before .before .before .before .before .before .before .pre) _ (c .before .before .before .set-frame .ensures)
 
 same-length : tie.Need-same-length
 same-length c = search laws

@@ -1,5 +1,6 @@
 -- `car::update` meets its contract. Assumes nothing.
-use Rattle.car.proofs.Updating.{update-slot, updateLaws}
+use Rattle.common.proofs.Updating.{update-slot}
+use Rattle.car.proofs.Updating.{updateLaws}
 use Rattle.car.proofs.update.Statement.{statement}
 use Rattle.car.proofs.update.Tie as tie
 
@@ -10,7 +11,7 @@ set-frame-requires : tie.Need-set-frame-requires
 set-frame-requires c κs = search updateLaws
 
 set-bit-requires : tie.Need-set-bit-requires
-set-bit-requires c κs = (update-slot _ _ _ _ (c .before .before .before .before .before .before .before .before .pre .0) _ (c .before .before .before .set-frame .ensures), search updateLaws)
+set-bit-requires c κs = (update-slot _ _ _ _ (c .before .before .before .before .before .before .before .before .pre) _ (c .before .before .before .set-frame .ensures), search updateLaws)
 
 same-length : tie.Need-same-length
 same-length c = search updateLaws

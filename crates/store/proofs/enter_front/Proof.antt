@@ -7,16 +7,16 @@ find-requires : tie.Need-find-requires
 find-requires c κs = search laws
 
 add-front-requires : tie.Need-add-front-requires
-add-front-requires c κs = enter-adds _ _ _ _ _ _ (c .before .before .before .before .pre .0) (c .before .before .before .before .pre .1)
+add-front-requires c κs = enter-adds _ _ _ _ _ (c .before .before .before .before .pre .0) (c .before .before .before .before .pre .1)
 
 put-requires : tie.Need-put-requires
-put-requires c κs = enter-puts _ _ _ _ _ _ (c .before .before .before .before .before .before .before .before .pre .0) (c .before .before .before .before .before .before .before .before .pre .1) _ (c .before .before .before .before .before .find .ensures) _ _ _ (c .before .before .before .add-front .ensures)
+put-requires c κs = enter-puts _ _ _ _ _ (c .before .before .before .before .before .before .before .before .pre .0) (c .before .before .before .before .before .before .before .before .pre .1) _ (c .before .before .before .before .before .find .ensures) _ _ _ (c .before .before .before .add-front .ensures)
 
 same-length : tie.Need-same-length
 same-length c = search laws
 
 returns : tie.Need-returns
-returns c = enter-front-left _ _ _ _ _ _ (c .before .before .before .before .before .before .before .before .before .before .before .pre .0) (c .before .before .before .before .before .before .before .before .before .before .before .pre .1) _ (c .before .before .before .before .before .before .before .before .find .ensures) _ _ (c .before .before .before .before .before .before .add-front .ensures) _ (c .before .before .put .ensures)
+returns c = enter-front-left _ _ _ _ _ (c .before .before .before .before .before .before .before .before .before .before .before .pre .0) (c .before .before .before .before .before .before .before .before .before .before .before .pre .1) _ (c .before .before .before .before .before .before .before .before .find .ensures) _ _ _ (c .before .before .before .before .before .before .before .before .before .before .before .fits .f .fits) (c .before .before .before .before .before .before .add-front .ensures) _ (c .before .before .put .ensures)
 
 pub enter-front-spec : {M : Type 1} → statement M
 enter-front-spec =

@@ -1,0 +1,12 @@
+use Rattle.arc.proofs.Laws.{laws}
+use Rattle.arc.proofs.p_value.Statement.{statement}
+use Rattle.arc.proofs.p_value.Tie as tie
+
+target-requires : tie.Need-target-requires
+target-requires c κs = search laws
+
+returns : tie.Need-returns
+returns c = search laws
+
+pub p-value-spec : {M : Type 1} → statement M
+p-value-spec = tie.close (tie.spec target-requires returns)
