@@ -1,7 +1,7 @@
 -- What the calls need of a policy: the state test of its kind tells its well-formed states from all other words, an empty cache is its `new`, no call changes the
--- capacity, and a question changes nothing. ARC and CAR have it. Assumes nothing.
+-- capacity, none is refused with 3, and a question changes nothing. ARC and CAR have it. Assumes nothing.
 use mathlib.Core.Path.{_≡_, refl, ap}
-use mathlib.Core.Bool.{true}
+use mathlib.Core.Bool.{true, false}
 use mathlib.Core.List.{List}
 use Prim.Native.Nat.{ℕ, _^_, _<_, _≤_}
 use lib.ListN.{getD}
@@ -17,6 +17,7 @@ use Rattle.state_check.specs.Check.{stateTest}
 use Rattle.state_check.proofs.State.{arc-sound, car-sound, arc-complete, car-complete}
 use Rattle.calls.specs.Policy.{Policy, arcPolicy, carPolicy, stateOf}
 use Rattle.calls.proofs.Capacity.{arc-keeps, car-keeps}
+use Rattle.calls.proofs.Accepting.{is3, arc-accepts, car-accepts}
 
 pub record Exact (P : Policy) : Type 0 where
   pub sound : (w : List ℕ) → ((i : ℕ) → getD w i 0 < 2 ^ 64) → stateTest (P .kind) w ≡ true → P .WellFormed (stateOf P (capacityOf w) w)
@@ -25,6 +26,7 @@ pub record Exact (P : Policy) : Type 0 where
   pub new-well : (c : ℕ) → c ≤ maxCapacity → P .WellFormed (P .new c)
   pub capacity : (s : Car) → P .does (Ask Capacity) (P .view s) .answer ≡ Number (s .lists .c)
   pub keeps : (k : Call) (s : P .State) → P .does (Ask Capacity) (P .does k s .state) .answer ≡ P .does (Ask Capacity) s .answer
+  pub accepts : (k : Call) (s : P .State) → is3 (P .does k s .answer) ≡ false
   pub asks : (q : Question) (s : P .State) → P .does (Ask q) s .state ≡ s
 
 arc-new-is : (c : ℕ) → arcOf (car.new c) ≡ arc.new c
@@ -44,7 +46,7 @@ unfolding arc.does
 arc-asks q s = refl
 
 pub arc-exact : Exact arcPolicy
-arc-exact = record { sound = λ w words q. arc-sound w words q .1; complete = arc-complete; new-is = arc-new-is; new-well = arc-new; capacity = arc-capacity; keeps = arc-same; asks = arc-asks }
+arc-exact = record { sound = λ w words q. arc-sound w words q .1; complete = arc-complete; new-is = arc-new-is; new-well = arc-new; capacity = arc-capacity; keeps = arc-same; accepts = arc-accepts; asks = arc-asks }
 
 car-capacity : (s : Car) → car.does (Ask Capacity) s .answer ≡ Number (s .lists .c)
 unfolding car.does asked
@@ -59,4 +61,4 @@ unfolding car.does
 car-asks q s = refl
 
 pub car-exact : Exact carPolicy
-car-exact = record { sound = λ w words q. car-sound w words q .1; complete = car-complete; new-is = λ c. refl; new-well = car-new; capacity = car-capacity; keeps = car-same; asks = car-asks }
+car-exact = record { sound = λ w words q. car-sound w words q .1; complete = car-complete; new-is = λ c. refl; new-well = car-new; capacity = car-capacity; keeps = car-same; accepts = car-accepts; asks = car-asks }

@@ -1,7 +1,9 @@
 -- The laws of the calls, over the policy. Assumes nothing.
 pub mod Capacity
+pub mod Accepting
 pub mod Exact
 pub mod Reading
 pub mod Same
 pub mod Passing
-pub mod Chain
+pub mod Outcomes
+pub mod Refusing

@@ -1,3 +1,4 @@
+-- `opening::open` meets its contract. Assumes nothing.
 use Rattle.opening.proofs.Laws.{laws, opens}
 use native.Mathlib.Omega.{arith}
 use borrow.Author.Needs.{needs}

@@ -1,19 +1,24 @@
--- Calls one after the other. In order: what words read as; a question is a call that leaves the area; a call keeps the capacity. Assumes nothing.
+-- What a contract says of an area that reads as a state. In order: what words read as; a call; a question, which leaves the area; `new`; a call keeps the capacity.
+-- Assumes nothing.
 use mathlib.Core.Path.{_≡_, refl, sym, subst, ap, _∙_}
 use mathlib.Core.Bool.{Bool, true, false, cond}
 use mathlib.Core.List.{List}
+use mathlib.Core.Logic.{_⊎_, inl, inr}
 use mathlib.Core.Option.{Option, some, none}
 use Prim.Native.Nat.{ℕ, _^_, _<_}
 use native.Mathlib.Omega.{arith}
+use lib.Dec.{ltb}
 use lib.ListN.{length, drop, getD}
-use Rattle.rules.specs.Calls.{Call, Question, Capacity, Ask, Answer, Number, done}
-use Rattle.rules.specs.Public.{called}
+use Rattle.rules.specs.Calls.{Call, Question, Capacity, Ask, Answer, Number, Made, Refused, Done, done}
+use Rattle.rules.specs.State.{maxCapacity}
+use Rattle.rules.specs.Counts.{counted, noCounts}
+use Rattle.rules.specs.Public.{wordsNeeded, made, called}
 use Rattle.parts.specs.Parts as parts
 use Rattle.area.specs.Area.{capacityOf}
 use Rattle.area.specs.Stored.{stateIn}
 use Rattle.state_check.specs.Check.{stateTest}
 use Rattle.calls.specs.Policy.{Policy, stateOf, reads}
-use Rattle.calls.specs.Outer.{Outcome, Told}
+use Rattle.calls.specs.Outer.{Outcome, Told, Making}
 use Rattle.calls.proofs.Exact.{Exact}
 
 module _ (P : Policy) where
@@ -50,6 +55,20 @@ module _ (P : Policy) where
       by : (o : Option (P .State)) → a ≡ called (P .does) (Ask q) o .answer → done a o ≡ called (P .does) (Ask q) o
       by none x = rw x refl
       by (some s) x = rw (x, e .asks q s) refl
+
+  -- `NEW` makes an empty state, or leaves the one that is there; it counts nothing
+  pub making-is : (c : ℕ) (w v : List ℕ) (a : Answer) → Making P c w v a → (counted a ≡ noCounts) × ((reads P v ≡ some (P .new c)) ⊎ (reads P v ≡ reads P w))
+  unfolding made
+  making-is c w v a m = by (ltb maxCapacity c) (ltb (length w) (wordsNeeded c)) (m .is)
+    where
+      Is : Done (Option (P .State)) → Type 0
+      Is d = done a (reads P v) ≡ d
+
+      by : (x y : Bool) → Is (cond x (done (Refused 1) (reads P w)) (cond y (done (Refused 2) (reads P w)) (done Made (some (P .new c)))))
+          → (counted a ≡ noCounts) × ((reads P v ≡ some (P .new c)) ⊎ (reads P v ≡ reads P w))
+      by true y q = (ap (λ d. counted (d .answer)) q, inr (ap (λ d. d .state) q))
+      by false true q = (ap (λ d. counted (d .answer)) q, inr (ap (λ d. d .state) q))
+      by false false q = (ap (λ d. counted (d .answer)) q, inl (ap (λ d. d .state) q))
 
   -- READ BACK: a call keeps the capacity
   pub read-back : Exact P → (k : Call) (w v : List ℕ) (a : Answer) → Outcome P k w v a → capacityOf v ≡ capacityOf w

@@ -1,0 +1,1 @@
+-- The proofs of ARC's public calls. Assumes nothing.

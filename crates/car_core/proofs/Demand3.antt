@@ -1,0 +1,138 @@
+-- DEMAND 3 of the code's public calls, from their contracts alone: the sum over any calls, and the replacement of an insert. Assumes nothing.
+use mathlib.Core.Path.{_≡_, refl, sym, subst, ap, _∙_}
+use mathlib.Core.Bool.{Bool, true, false, false≢true}
+use mathlib.Core.List.{List, []}
+use mathlib.Core.Logic.{_⊎_, inl, inr}
+use mathlib.Core.Option.{Option, some, none}
+use Prim.Native.Nat.{ℕ, _+_, _<_, _≤_}
+use native.Mathlib.Omega.{arith}
+use lib.Dec.{eqb}
+use borrow.Author.Tests.{eqb-false, leb-true, le-leb}
+use Rattle.rules.specs.State.{Side, residents, resident, full}
+use Rattle.rules.specs.Calls.{Call, Insert, Ask, Answer, New, None, Old, Victim, nobody, out, Place, ghost, nowhere, Replaced, steps, replaceIf}
+use Rattle.rules.specs.Counts.{Counts, noCounts, counted, plus, hits, outs}
+use Rattle.rules.specs.Stages.{placeOf, ghostHit, isB2}
+use Rattle.rules.specs.Car as car
+use Rattle.rules.specs.Car.{Car, WellFormed, Obeys, referenced, does, new, replace, roomFor}
+use Rattle.rules.proofs.Demand3.{does-pays, Ends, demand-3-replacement}
+use Rattle.rules.proofs.ClosureCar.{does-obeys, new-obeys}
+use Rattle.area.specs.Stored.{Writes}
+use Rattle.state_check.proofs.State.{car-complete, writes-read}
+use Rattle.calls.specs.Policy.{carPolicy, reads}
+use Rattle.calls.specs.Outer.{Outcome, Making}
+use Rattle.calls.specs.Runs as runs
+use Rattle.calls.specs.Runs.{Run}
+use Rattle.calls.proofs.Exact.{car-exact}
+use Rattle.calls.proofs.Reading.{reads-some}
+use Rattle.calls.proofs.Outcomes.{outcome-is, told-outcome, making-is}
+
+-- the area v reads as a state again, and what the answers counted, n, pays for the hand steps from the state s on
+pub record Paid (s : Car) (n : Counts) (v : List ℕ) : Type 0 where
+  pub state : Car
+  pub reads-as : reads carPolicy v ≡ some state
+  pub paid : n .steps + referenced (state .lists) ≤ referenced (s .lists) + hits n + n .evictions
+
+writes-reads : (w : List ℕ) (s : Car) → Writes 2 w s → WellFormed s → reads carPolicy w ≡ some s
+writes-reads w s r f = reads-some carPolicy w (car-complete w s r f) ∙ ap some (writes-read 2 w s r)
+
+-- a call, and then what follows it
+then : (k : Call) (a : Answer) (n : Counts) (w u v : List ℕ) (s : Car) → Obeys s → reads carPolicy w ≡ some s → Outcome carPolicy k w u a → Paid (does k s .state) n v → Paid s (plus (counted a) n) v
+then k a n w u v s o r x p =
+    let q : a ≡ does k s .answer = outcome-is carPolicy k w u a s x r .0 in
+    let y = does-pays k s o in
+    record { state = p .state; reads-as = p .reads-as; paid = rw q (omega arith) }
+
+-- `new` counts nothing, and what it makes has no referenced page; `on` is what follows
+counts-nothing : (a : Answer) (n : Counts) (v : List ℕ) (s t : Car) → counted a ≡ noCounts → referenced (t .lists) ≤ referenced (s .lists) → Paid t n v → Paid s (plus (counted a) n) v
+counts-nothing a n v s t q h p = record { state = p .state; reads-as = p .reads-as; paid = rw q (omega arith) }
+
+none-referenced : (c : ℕ) → referenced (new c .lists) ≡ 0
+unfolding new
+none-referenced c = refl
+
+after-new : (c : ℕ) (a : Answer) (n : Counts) (w u v : List ℕ) (s : Car) → Obeys s → reads carPolicy w ≡ some s → Making carPolicy c w u a
+    → ((t : Car) → Obeys t → reads carPolicy u ≡ some t → Paid t n v) → Paid s (plus (counted a) n) v
+after-new c a n w u v s o r x on = let m = making-is carPolicy c w u a x in by (m .0) (m .1)
+  where
+    by : counted a ≡ noCounts → (reads carPolicy u ≡ some (new c)) ⊎ (reads carPolicy u ≡ reads carPolicy w) → Paid s (plus (counted a) n) v
+    by q (inl y) = counts-nothing a n v s (new c) q (omega (arith, none-referenced c)) (on (new c) (new-obeys c) y)
+    by q (inr y) = counts-nothing a n v s s q (omega arith) (on s o (y ∙ r))
+
+pays : {w v : List ℕ} {n : Counts} → (s : Car) → Obeys s → reads carPolicy w ≡ some s → Run carPolicy w n v → Paid s n v
+pays s o r runs.none = record { state = s; reads-as = r; paid = omega arith }
+pays s o r (runs.call {k} {a} {n} {w} {u} {v} x l) =
+    then k a n w u v s o r x (pays (does k s .state) (does-obeys k s o) (outcome-is carPolicy k w u a s x r .1) l)
+pays s o r (runs.ask {q} {a} {n} {w} {v} x l) =
+    let y = told-outcome carPolicy car-exact q w a x in
+    then (Ask q) a n w w v s o r y (pays (does (Ask q) s .state) (does-obeys (Ask q) s o) (outcome-is carPolicy (Ask q) w w a s y r .1) l)
+pays s o r (runs.new {c} {a} {n} {w} {u} {v} x l) = after-new c a n w u v s o r x (λ t p q. pays t p q l)
+
+-- "For CAR, from any well-formed state with r0 referenced pages and over any calls: hand steps plus pages still referenced at the end never exceed r0 plus hits
+-- plus evictions."
+pub demand-3 : (w v : List ℕ) (s : Car) (n : Counts) → Writes 2 w s → WellFormed s → Run carPolicy w n v → Paid s n v
+demand-3 w v s n r f l = pays s (f .obeys) (writes-reads w s r f) l
+
+-- ---- a replacement
+-- an insert of the page x into the state s names a victim and steps: they are those of the replacement r of the rules, and r ends as demand 3 says
+pub record Replaces (s : Car) (x : ℕ) (victim : Victim) (n : ℕ) : Type 0 where
+  pub victim-is : victim ≡ roomFor (placeOf x (s .lists)) x s .victim
+  pub steps-are : n ≡ steps (roomFor (placeOf x (s .lists)) x s)
+  pub ends : Ends s (roomFor (placeOf x (s .lists)) x s)
+
+-- of a page that a ghost hit has taken out of its ghost list, nothing is asked of the clocks
+ends-hit : (i : Side) (x : ℕ) (s : Car) (r : Replaced Car) → Ends (car.car (ghostHit i x (s .lists)) (s .free)) r → Ends s r
+ends-hit i x s r e = record { within = e .within; turns = e .turns; single = e .single; others = e .others }
+
+ends-if : (b hit : Bool) (s : Car) → b ≡ true → 1 ≤ s .lists .c → residents (s .lists) ≡ s .lists .c → Ends s (replaceIf b (replace hit) s)
+ends-if true hit s q k h = demand-3-replacement hit s k h
+ends-if false hit s q k h = absurd (false≢true q)
+
+room-ends : (p : Place) (x : ℕ) (s : Car) → 1 ≤ s .lists .c → residents (s .lists) ≡ s .lists .c → Ends s (roomFor p x s)
+unfolding roomFor car.missed
+room-ends (ghost i) x s k h =
+    let t = car.car (ghostHit i x (s .lists)) (s .free) in
+    ends-hit i x s _ (ends-if (full (t .lists)) (isB2 i) t (le-leb (s .lists .c) (residents (s .lists)) (omega arith)) k h)
+room-ends nowhere x s k h = ends-if (full (s .lists)) false s (le-leb (s .lists .c) (residents (s .lists)) (omega arith)) k h
+
+insert-ends : (z : Bool) (o : Option car.Resident) (x f : ℕ) (s : Car) (i : Victim) (n : ℕ) → eqb (s .lists .c) 0 ≡ z → residents (s .lists) ≡ s .lists .c
+    → New i n ≡ car.inserted z o x f s .answer → Replaces s x i n
+unfolding car.inserted car.insertAt
+insert-ends true o x f s i n hc h q = absurd (let z : _≡_ {A = ℕ} 0 1 = cc in let y : ⊥ = omega arith in y)
+insert-ends false (some e) x f s i n hc h q = absurd (let z : _≡_ {A = ℕ} 0 1 = cc in let y : ⊥ = omega arith in y)
+insert-ends false none x f s i n hc h q =
+    let k : (s .lists .c ≡ 0 → ⊥) = eqb-false (s .lists .c) 0 hc in
+    record { victim-is = cc; steps-are = cc; ends = room-ends (placeOf x (s .lists)) x s (omega arith) h }
+
+-- "Each replacement on a full cache with r referenced pages ends within r+1 steps, turns from the recent to the frequent clock at most once and never back, and
+-- puts out exactly one page.": an insert that stores a new page in a full cache
+pub demand-3-insert : (w v : List ℕ) (s : Car) (x f n : ℕ) (i : Victim) → Writes 2 w s → WellFormed s → residents (s .lists) ≡ s .lists .c
+    → Outcome carPolicy (Insert x f) w v (New i n) → Replaces s x i n
+unfolding does
+demand-3-insert w v s x f n i r g h o =
+    insert-ends (eqb (s .lists .c) 0) (resident x (s .lists)) x f s i n refl h (outcome-is carPolicy (Insert x f) w v (New i n) s o (writes-reads w s r g) .0)
+
+-- and there is no other replacement: a page goes out only where the cache is full
+if-full : (b hit : Bool) (s : Car) → outs (replaceIf b (replace hit) s .victim) ≡ 1 → b ≡ true
+if-full true hit s q = refl
+if-full false hit s q = absurd (omega arith)
+
+room-full : (p : Place) (x : ℕ) (s : Car) → outs (roomFor p x s .victim) ≡ 1 → s .lists .c ≤ residents (s .lists)
+unfolding roomFor car.missed
+room-full (ghost i) x s q = leb-true (s .lists .c) (residents (s .lists)) (if-full (full (ghostHit i x (s .lists))) (isB2 i) (car.car (ghostHit i x (s .lists)) (s .free)) q)
+room-full nowhere x s q = leb-true (s .lists .c) (residents (s .lists)) (if-full (full (s .lists)) false s q)
+
+insert-full : (z : Bool) (o : Option car.Resident) (x f : ℕ) (s : Car) (i : Victim) (n : ℕ) → outs i ≡ 1
+    → New i n ≡ car.inserted z o x f s .answer → s .lists .c ≤ residents (s .lists)
+unfolding car.inserted car.insertAt
+insert-full true o x f s i n h q = absurd (let z : _≡_ {A = ℕ} 0 1 = cc in let y : ⊥ = omega arith in y)
+insert-full false (some e) x f s i n h q = absurd (let z : _≡_ {A = ℕ} 0 1 = cc in let y : ⊥ = omega arith in y)
+insert-full false none x f s i n h q =
+    let e : i ≡ roomFor (placeOf x (s .lists)) x s .victim = cc in
+    room-full (placeOf x (s .lists)) x s (rw e at h)
+
+pub victim-full : (w v : List ℕ) (s : Car) (x f n : ℕ) (i : Victim) → Writes 2 w s → WellFormed s → outs i ≡ 1
+    → Outcome carPolicy (Insert x f) w v (New i n) → residents (s .lists) ≡ s .lists .c
+unfolding does
+victim-full w v s x f n i r g h o =
+    let a = insert-full (eqb (s .lists .c) 0) (resident x (s .lists)) x f s i n h (outcome-is carPolicy (Insert x f) w v (New i n) s o (writes-reads w s r g) .0) in
+    omega (arith, g .obeys .sound .room)
