@@ -1,0 +1,5 @@
+-- The laws of a batch. Assumes nothing.
+pub mod Counting
+pub mod Paying
+pub mod Turning
+pub mod Passing

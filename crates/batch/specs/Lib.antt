@@ -1,0 +1,2 @@
+-- The contracts of a batch. Assumes nothing.
+pub mod Outcomes

@@ -1,0 +1,81 @@
+-- An operation of a trace as a call, in the shapes of the code. Assumes nothing.
+use mathlib.Core.Path.{_≡_, refl, sym, subst}
+use mathlib.Core.List.{List}
+use Prim.Native.Nat.{ℕ}
+use borrow.Author.Needs.{needs}
+use Rattle.trace.specs.declared.Operation.{Operation}
+use Rattle.trace.specs.declared.Operation.the-variants as operation
+use Rattle.rules.specs.Calls.{Call, Get, Insert, Remove, Clear, Ask, Question, Peek, Answer, Cleared, asked}
+use Rattle.rules.specs.Batch.{callOf}
+use Rattle.rules.specs.Arc as arc
+use Rattle.rules.specs.Car as car
+use Rattle.answers.specs.Answers.{gotIs, seenIs, goneIs, insertedIs, replyIs}
+use Rattle.answers.specs.declared.Got.{Got}
+use Rattle.answers.specs.declared.Seen.{Seen}
+use Rattle.answers.specs.declared.Gone.{Gone}
+use Rattle.answers.specs.declared.Inserted.{Inserted}
+use Rattle.answers.specs.declared.Reply.{Reply}
+use Rattle.answers.specs.declared.Reply.the-variants as reply
+use Rattle.calls.specs.Policy.{Policy, arcPolicy, carPolicy, policyOf, stateOf}
+use Rattle.calls.specs.Inner.{Good, Did, Says}
+use Rattle.calls.specs.declared.Kind.{Kind}
+use Rattle.calls.specs.declared.Kind.the-variants as kinds
+
+-- a question changes nothing
+abbrev Asks : Policy → Type 0
+Asks P = (q : Question) (s : P .State) → P .does (Ask q) s .state ≡ s
+
+arc-asks : Asks arcPolicy
+unfolding arc.does asked
+arc-asks q s = refl
+
+car-asks : Asks carPolicy
+unfolding car.does asked
+car-asks q s = refl
+
+module _ (P : Policy) (c : ℕ) (w v : List ℕ) (op : Operation) where
+  -- ---- the call that was made is the operation's
+  made : (k : Call) (a : Answer) → callOf op ≡ k → Did P k c w v a → Did P (callOf op) c w v a
+  made k a e d = subst (λ (j : Call). Did P j c w v a) (sym e) d
+
+  pub did-get : (x : ℕ) (r : Got) → op ≡ operation.Get x → Did P (Get x) c w v (gotIs r) → Did P (callOf op) c w v (replyIs (reply.Got r))
+  did-get x r e d = made (Get x) (gotIs r) (rw e refl) d
+
+  pub did-insert : (x f : ℕ) (r : Inserted) → op ≡ operation.Insert x f → Did P (Insert x f) c w v (insertedIs r) → Did P (callOf op) c w v (replyIs (reply.Inserted r))
+  did-insert x f r e d = made (Insert x f) (insertedIs r) (rw e refl) d
+
+  pub did-remove : (x : ℕ) (r : Gone) → op ≡ operation.Remove x → Did P (Remove x) c w v (goneIs r) → Did P (callOf op) c w v (replyIs (reply.Gone r))
+  did-remove x r e d = made (Remove x) (goneIs r) (rw e refl) d
+
+  pub did-clear : op ≡ operation.Clear → Did P Clear c w v Cleared → Did P (callOf op) c w v (replyIs reply.Cleared)
+  did-clear e d = made Clear Cleared (rw e refl) d
+
+-- ---- a peek leaves the area
+peeked : (P : Policy) → Asks P → (c : ℕ) (w : List ℕ) (op : Operation) (x : ℕ) (a : Answer) → op ≡ operation.Peek x → Good P c w → Says P (Peek x) c w a → Did P (callOf op) c w w a
+peeked P asks c w op x a e g s =
+    made P c w w op (Ask (Peek x)) a (rw e refl)
+    (record { good = g; state = sym (asks (Peek x) (stateOf P c w)); answer = s .answer; size = refl; rest = refl })
+
+pub arc-peeked : (c : ℕ) (w : List ℕ) (op : Operation) (x : ℕ) (r : Seen) → op ≡ operation.Peek x → Good arcPolicy c w → Says arcPolicy (Peek x) c w (seenIs r)
+    → Did arcPolicy (callOf op) c w w (replyIs (reply.Seen r))
+arc-peeked c w op x r e g s = peeked arcPolicy arc-asks c w op x (seenIs r) e g s
+
+pub car-peeked : (c : ℕ) (w : List ℕ) (op : Operation) (x : ℕ) (r : Seen) → op ≡ operation.Peek x → Good carPolicy c w → Says carPolicy (Peek x) c w (seenIs r)
+    → Did carPolicy (callOf op) c w w (replyIs (reply.Seen r))
+car-peeked c w op x r e g s = peeked carPolicy car-asks c w op x (seenIs r) e g s
+
+-- ---- by the kind
+module _ (k : Kind) (c : ℕ) (w : List ℕ) where
+  pub arc-good : k ≡ kinds.Arc → Good (policyOf k) c w → Good arcPolicy c w
+  arc-good e g = subst (λ (j : Kind). Good (policyOf j) c w) e g
+
+  pub car-good : k ≡ kinds.Car → Good (policyOf k) c w → Good carPolicy c w
+  car-good e g = subst (λ (j : Kind). Good (policyOf j) c w) e g
+
+  pub arc-did : (v : List ℕ) (call : Call) (a : Answer) → k ≡ kinds.Arc → Did arcPolicy call c w v a → Did (policyOf k) call c w v a
+  arc-did v call a e d = subst (λ (j : Kind). Did (policyOf j) call c w v a) (sym e) d
+
+  pub car-did : (v : List ℕ) (call : Call) (a : Answer) → k ≡ kinds.Car → Did carPolicy call c w v a → Did (policyOf k) call c w v a
+  car-did v call a e d = subst (λ (j : Kind). Did (policyOf j) call c w v a) (sym e) d
+
+pub ruleset laws = (did-get, did-insert, did-remove, did-clear, arc-peeked, car-peeked, arc-good, car-good, arc-did, car-did, needs)

@@ -1,0 +1,2 @@
+-- The laws of operations. Assumes nothing.
+pub mod Laws
