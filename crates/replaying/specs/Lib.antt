@@ -1,3 +1,5 @@
 -- The definitions that the contracts of `replaying` cite. Assumes nothing.
-pub mod Pending
+pub mod Asked
 pub mod Feeding
+pub mod Header
+pub mod Pending
