@@ -297,7 +297,7 @@ const AREA_WORDS: usize = 6208;
 
 // Such an area.
 pub fn area() -> [u64; AREA_WORDS]
-    ensures { λ r. ⌜ areaWords ≤ length r ⌝ }
+    ensures { λ r. ⌜ areaWords ≡ length r ⌝ }
 {
     [0; AREA_WORDS]
 }
