@@ -1,5 +1,6 @@
-pub mod Laws
-pub mod Loop
 pub mod Bounds
 pub mod Examples
+pub mod Laws
+pub mod Loop
+pub mod Prefix
 pub mod Unique

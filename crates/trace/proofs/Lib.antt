@@ -1,5 +1,6 @@
-pub mod Laws
 pub mod Arms
-pub mod Turns
 pub mod Checks
 pub mod Examples
+pub mod Laws
+pub mod Prefix
+pub mod Turns

@@ -1,0 +1,2 @@
+-- The laws of `replay`. Assumes nothing.
+pub mod Laws

@@ -1,0 +1,2 @@
+-- The definitions that the contracts of `replay` cite. Assumes nothing.
+pub mod Standing

@@ -1,0 +1,8 @@
+-- The laws of `replaying`. Assumes nothing.
+pub mod Batches
+pub mod Beginning
+pub mod Headers
+pub mod Keeping
+pub mod Pieces
+pub mod Running
+pub mod Whole

@@ -1,0 +1,65 @@
+-- What a feed does with a piece of the input, and feeds one after the other. Assumes nothing.
+use mathlib.Core.Path.{_≡_}
+use mathlib.Core.Bool.{Bool, true, cond}
+use mathlib.Core.List.{List, [], _∷_, _++_}
+use Prim.Native.Nat.{ℕ, _+_, _-_, _^_, _<_, _≤_}
+use lib.ListN.{length, take, drop}
+use Rattle.replaying.specs.declared.Replay.{Replay}
+use Rattle.replaying.specs.declared.Replay.the-variants.{Ended}
+use Rattle.replaying.specs.Pending.{pending, Ready, offsetOf}
+
+-- an operation has at most sixteen bytes: with so many at hand, or with all that are left of the input, one can be run
+abbrev pub needed : Bool → ℕ
+needed last = cond last 0 16
+
+-- THE CONTRACT of a feed. The replay r with the area w was given bytes of the input, after which no more follow where `last` is true; it is s with the area v
+-- then, has used up some of the bytes, and has written.
+pub record Feeds (r : Replay) (w bytes : List ℕ) (last : Bool) (s : Replay) (v : List ℕ) (used : ℕ) (written : List ℕ) : Type 0 where
+  pub inside : used ≤ length bytes
+  pub ready : Ready s v
+  pub moved : offsetOf s ≤ offsetOf r + used
+  -- whatever follows the bytes, what was written is the start of what was still to be told, and what is still to be told is the rest of it; so for all of an
+  -- input of fewer than 2^64 bytes, which is how far offsets count
+  pub told : offsetOf r + length bytes < 2 ^ 64 → (rest : List ℕ) → (last ≡ true → rest ≡ [])
+      → pending r w (bytes ++ rest) ≡ written ++ pending s v (drop used bytes ++ rest)
+  -- where an operation can be run, it ends or uses up a byte
+  pub progress : needed last ≤ length bytes → (s ≡ Ended → ⊥) → 1 ≤ used
+
+-- what was written is there, in a buffer as long as it was
+pub record Wrote (written : ℕ) (before after : List ℕ) : Type 0 where
+  pub there : written ≤ length after
+  pub size : length after ≡ length before
+
+-- the bytes from `from` up to `to` of a buffer stand at its start now
+pub record Keeps (before after : List ℕ) (from to r : ℕ) : Type 0 where
+  pub count : r ≡ to - from
+  pub front : take r after ≡ drop from (take to before)
+  pub size : length after ≡ length before
+
+-- one feed of a run: the piece that was read behind the bytes that were kept, whether it is the last, and what the feed made of them
+pub record Turn : Type 0 where
+  pub piece : List ℕ
+  pub last : Bool
+  pub replay : Replay
+  pub area : List ℕ
+  pub used : ℕ
+  pub written : List ℕ
+
+-- the pieces together, and the output together
+abbrev pub piecesOf : List Turn → List ℕ
+piecesOf [] = []
+piecesOf (t ∷ ts) = t .piece ++ piecesOf ts
+
+abbrev pub outputOf : List Turn → List ℕ
+outputOf [] = []
+outputOf (t ∷ ts) = t .written ++ outputOf ts
+
+-- a feed of the bytes kept and a piece, `rest` being what is read after it or never: nothing, where it was the last
+pub record Fed (r : Replay) (w kept : List ℕ) (t : Turn) (rest : List ℕ) : Type 0 where
+  pub feeds : Feeds r w (kept ++ t .piece) (t .last) (t .replay) (t .area) (t .used) (t .written)
+  pub end : t .last ≡ true → rest ≡ []
+
+-- feeds one after the other, each with the bytes that the one before did not use up, until the replay has ended; `unread` is what of the input is not read then
+abbrev pub Run : Replay → List ℕ → List ℕ → List Turn → List ℕ → Type 0
+Run r w kept [] unread = r ≡ Ended
+Run r w kept (t ∷ ts) unread = Fed r w kept t (piecesOf ts ++ unread) × Run (t .replay) (t .area) (drop (t .used) (kept ++ t .piece)) ts unread
