@@ -1,10 +1,13 @@
 //! live SECONDS [SEED]: generated cases through the programs `replay` and `states`, compared with the excerpts. The command lines of the programs are in the
 //! environment, REPLAY and STATES, and are run by sh. Seeds are fresh unless one is given, and printed; batch i has the seed SEED + i, so that a batch is repeated by
-//! its own seed. At a difference the shortest prefix of the operations that shows it is printed, and the status is 1.
+//! its own seed. A run of 300 seconds or more starts with tours of all small states. At a difference the shortest prefix of the operations that shows it is printed, and the status is 1.
 use compare::agree::{replay, states};
+use compare::calls::{ARC, CAR};
 use compare::cases::{damaged, fitting, heads, input, long_run, short_run, KINDS, PATTERNS};
 use compare::program::{head, Case, DIGEST, REPLAY_MOST, STATES_MOST, WHOLE};
 use compare::random::Random;
+use compare::rust::Side;
+use compare::tour::tours;
 use compare::trace::{next, Next};
 use std::collections::BTreeSet;
 use std::process::{exit, Command, Stdio};
@@ -192,6 +195,24 @@ fn batch(seed: u64) -> Vec<Case> {
     cases
 }
 
+/// A run of so many seconds starts with the tours: every call from every state that calls reach, at capacities up to these.
+const TOURS_FROM: u64 = 300;
+const TOURS: [(Side, u8, usize); 2] = [(Side::Arc, ARC, 5), (Side::CarStep1, CAR, 3)];
+
+fn run_tours(program: &Program, figures: &mut Figures) {
+    for (side, kind, most) in TOURS {
+        for c in 1..=most {
+            let walks = tours(side, c, 8000).unwrap_or_else(|said| {
+                println!("live: {said}");
+                exit(1);
+            });
+            let cases: Vec<Case> = walks.iter().map(|operations| Case { mode: DIGEST, input: input(kind, c, operations) }).collect();
+            cases.chunks(10).for_each(|some| run_states(program, some, figures));
+            println!("live: kind {kind}, capacity {c}: every call from every state, {} calls", walks.iter().map(Vec::len).sum::<usize>());
+        }
+    }
+}
+
 fn main() {
     let words: Vec<u64> = std::env::args().skip(1).map(|word| word.parse().expect("usage: live SECONDS [SEED]")).collect();
     let seconds = *words.first().expect("usage: live SECONDS [SEED]");
@@ -207,6 +228,9 @@ fn main() {
     }
     let all_heads: Vec<Case> = heads(STATES_MOST).into_iter().map(|input| Case { mode: WHOLE, input }).collect();
     run_states(&by_states, &all_heads, &mut figures);
+    if seconds >= TOURS_FROM {
+        run_tours(&by_states, &mut figures);
+    }
     while batches == 0 || began.elapsed() < Duration::from_secs(seconds) {
         let own = seed.wrapping_add(batches);
         let cases = batch(own);
