@@ -1,5 +1,5 @@
-//! All states that calls reach from a fresh cache of a small capacity, up to the names of pages, and walks that make every call from every one of them. A policy does not look at a page's
-//! number or at frames, so that two states that differ in these alone go on alike, and there are finitely many others.
+//! All states that calls reach from a fresh cache of a small capacity, up to the names of pages, and walks that make every call from every one of them. A policy
+//! does not look at a page's number or at frames, so that two states that differ in these alone go on alike, and there are finitely many others.
 use crate::agree::Pair;
 use crate::calls::Cache;
 use crate::rust::Side;
@@ -15,8 +15,8 @@ pub fn name(state: &State) -> Vec<usize> {
     out
 }
 
-/// The calls that can matter in a state, in an order that its name settles: an insert of every page that it holds and of another one, gets and removes of every resident, of a ghost
-/// and of a page that it does not hold. The other calls change nothing, or are a clear.
+/// The calls that can matter in a state, in an order that its name settles: an insert of every page that it holds and of another one, gets and removes of every
+/// resident, of a ghost and of a page that it does not hold. The other calls change nothing, or are a clear.
 pub fn calls(state: &State, frame: u32) -> Vec<Operation> {
     let residents: Vec<u64> = state.residents().map(|r| r.page).collect();
     let ghosts: Vec<u64> = state.b1.iter().chain(&state.b2).copied().collect();
