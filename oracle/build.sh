@@ -8,7 +8,7 @@ cd "$root" || exit 2
 
 build_oracle() {
     command -v cargo >/dev/null || {
-        echo "oracle: cargo is missing: install Rust 1.65 or newer (https://rustup.rs, or Debian: apt-get install cargo)" >&2
+        echo "oracle: cargo is missing: install Rust 1.66 or newer (https://rustup.rs, or Debian: apt-get install cargo)" >&2
         return 2
     }
     local log=$root/target/oracle/build.log

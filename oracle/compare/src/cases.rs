@@ -76,8 +76,7 @@ pub enum Pattern {
     Shifting,
 }
 
-pub const PATTERNS: [Pattern; 7] =
-    [Pattern::Uniform, Pattern::Zipf, Pattern::Loop, Pattern::Scan, Pattern::Stride64, Pattern::Huge, Pattern::Shifting];
+pub const PATTERNS: [Pattern; 7] = [Pattern::Uniform, Pattern::Zipf, Pattern::Loop, Pattern::Scan, Pattern::Stride64, Pattern::Huge, Pattern::Shifting];
 
 struct Pages {
     pattern: Pattern,

@@ -93,11 +93,7 @@ impl Model {
             Step::One => 1,
             Step::Quotient => (other / hit).max(1),
         };
-        self.state.target = if place == Place::B1 {
-            (self.state.target + step).min(self.state.c)
-        } else {
-            self.state.target.saturating_sub(step)
-        };
+        self.state.target = if place == Place::B1 { (self.state.target + step).min(self.state.c) } else { self.state.target.saturating_sub(step) };
     }
 
     fn insert(&mut self, page: u64, frame: u32) -> Called {

@@ -65,9 +65,8 @@ macro_rules! car_excerpt {
             }
 
             fn whole(&self) -> State {
-                let residents = |clock: &[$module::CarResident<u64, u32>]| {
-                    clock.iter().map(|r| Resident { page: r.key, frame: r.value, slot: r.slot, bit: r.referenced }).collect()
-                };
+                let residents =
+                    |clock: &[$module::CarResident<u64, u32>]| clock.iter().map(|r| Resident { page: r.key, frame: r.value, slot: r.slot, bit: r.referenced }).collect();
                 let s = self.state();
                 assert_eq!(
                     [s.target, s.recent.len(), s.frequent.len(), s.ghost_recent.len(), s.ghost_frequent.len()],

@@ -1,6 +1,7 @@
-//! pace KIND CAPACITY REPEATS [reading]: the speed of the excerpts on a trace, operations only, from standard input. KIND is 1 ARC, 2 CAR, or 3 CAR with the step set to 1. Each repeat runs the trace on a fresh cache. The counts of the last
-//! go to standard output, `gets hits updates news evictions`, the nanoseconds an operation of each repeat to standard error. Operations are read into memory before, and only the calls are timed; with `reading` they are read from the trace's bytes
-//! while it runs, as the proved batch must.
+//! pace KIND CAPACITY REPEATS [reading]: the speed of the excerpts on a trace, operations only, from standard input. KIND is 1 ARC, 2 CAR, or 3 CAR with the
+//! step set to 1. Each repeat runs the trace on a fresh cache. The counts of the last go to standard output, `gets hits updates news evictions`, the nanoseconds
+//! an operation of each repeat to standard error. Operations are read into memory before, and only the calls are timed; with `reading` they are read from the
+//! trace's bytes while it runs, as the proved batch must.
 use cachekit::policy::{arc::ArcCore, car::CarCore, car_step_1};
 use cachekit::traits::Cache;
 use std::hint::black_box;

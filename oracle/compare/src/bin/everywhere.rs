@@ -1,5 +1,5 @@
-//! everywhere ARC CAR: every call from every state that calls reach from a fresh cache, up to the names of pages and the frames, at all capacities up to ARC and CAR: the excerpts against the list
-//! model, CAR also as published against the model with its step.
+//! everywhere ARC CAR: every call from every state that calls reach from a fresh cache, up to the names of pages and the frames, at all capacities up to ARC and
+//! CAR: the excerpts against the list model, CAR also as published against the model with its step.
 use compare::rust::Side;
 use compare::tour::explore;
 

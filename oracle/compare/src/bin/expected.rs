@@ -1,6 +1,6 @@
-//! The known difference of the excerpt of CAR from document 01: `adapt` moves the target by the quotient of the ghost lists' lengths, where 01 has 1. Runs the excerpt beside
-//! its copy with the step set to 1 and checks that a difference always begins at an insert of a ghost page where that quotient is above 1, and nowhere else; each of the two is held
-//! against the list model with its own rule for the step, call by call, so that the step is the only rule in which they differ.
+//! The known difference of the excerpt of CAR from document 01: `adapt` moves the target by the quotient of the ghost lists' lengths, where 01 has 1. Runs the
+//! excerpt beside its copy with the step set to 1 and checks that a difference always begins at an insert of a ghost page where that quotient is above 1, and
+//! nowhere else. Each of the two is held against the list model with its own rule for the step, call by call, so that the step is the only rule in which they differ.
 use compare::agree::Pair;
 use compare::calls::{Answer, Cache, Called};
 use compare::cases::{long_run, PATTERNS};
@@ -74,7 +74,8 @@ fn quotient(state: &State, operation: Operation) -> usize {
     }
 }
 
-/// The two states with their pages renamed in the order in which they stand there: calls do not look at a page's number, so that one pair of states with each such name is enough.
+/// The two states with their pages renamed in the order in which they stand there: calls do not look at a page's number, so that one pair of states with each
+/// such name is enough.
 fn name(both: &Both) -> Vec<usize> {
     let mut names = HashMap::new();
     let mut out = vec![];
@@ -115,7 +116,8 @@ fn told(path: &[Operation]) -> String {
     told.collect::<Vec<_>>().join(", ")
 }
 
-/// All sequences of calls at one capacity, as long as the two are alike, and up to a length once they are not: the first that shows another state, and the first that shows another line.
+/// All sequences of calls at one capacity, as long as the two are alike, and up to a length once they are not: the first that shows another state, and the first
+/// up to that length that shows another line.
 fn search(c: usize, longest: usize) -> [Option<Vec<Operation>>; 2] {
     let mut now = vec![(Both::new(c), vec![])];
     let mut seen = HashSet::from([name(&now[0].0)]);

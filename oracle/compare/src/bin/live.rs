@@ -1,10 +1,14 @@
 //! live SECONDS [SEED]: generated cases through the programs `replay` and `states`, compared with the excerpts. The command lines of the programs are in the
-//! environment, REPLAY and STATES, and are run by sh. Seeds are fresh unless one is given, and printed; batch i has the seed SEED + i, so that a batch is repeated by
-//! its own seed. At a difference the shortest prefix of the operations that shows it is printed, and the status is 1.
+//! environment, REPLAY and STATES, and are run by sh. Seeds are fresh unless one is given, and printed; batch i has the seed SEED + i, so that a batch is repeated
+//! by its own seed. A run of 300 seconds or more starts with tours of all small states. At a difference the shortest prefix of the operations that shows it is
+//! printed, and the status is 1.
 use compare::agree::{replay, states};
+use compare::calls::{ARC, CAR};
 use compare::cases::{damaged, fitting, heads, input, long_run, short_run, KINDS, PATTERNS};
 use compare::program::{head, Case, DIGEST, REPLAY_MOST, STATES_MOST, WHOLE};
 use compare::random::Random;
+use compare::rust::Side;
+use compare::tour::tours;
 use compare::trace::{next, Next};
 use std::collections::BTreeSet;
 use std::process::{exit, Command, Stdio};
@@ -85,7 +89,8 @@ fn first_difference(found: &[u8], wanted: &str) -> usize {
     found.lines().zip(wanted.lines()).take_while(|(a, b)| a == b).count()
 }
 
-/// With more operations than this the prefixes before the one whose last lines differ are not tried: only the lines after the operations could show it there.
+/// With more operations than this the prefixes before the one whose last operation shows the difference are not tried: there only the lines after the
+/// operations could show it.
 const ALL_PREFIXES: usize = 300;
 
 /// Says where a program and the excerpts first differ on an input, and stops. `each` is the number of lines for an operation.
@@ -138,9 +143,7 @@ fn run_states(program: &Program, cases: &[Case], figures: &mut Figures) {
         let (text, calls) = wanted(states(case), &case.input);
         match rest.strip_prefix(text.as_bytes()) {
             Some(after) => rest = after,
-            None => differs(program, &case.input, STATES_MOST, 2, alone(case.mode), |bytes| {
-                wanted(states(&Case { mode: case.mode, input: bytes.to_vec() }), bytes).0
-            }),
+            None => differs(program, &case.input, STATES_MOST, 2, alone(case.mode), |bytes| wanted(states(&Case { mode: case.mode, input: bytes.to_vec() }), bytes).0),
         }
         figures.cases += 1;
         figures.calls += calls;
@@ -192,6 +195,24 @@ fn batch(seed: u64) -> Vec<Case> {
     cases
 }
 
+/// A run of so many seconds starts with the tours: every call from every state that calls reach, at capacities up to these.
+const TOURS_FROM: u64 = 300;
+const TOURS: [(Side, u8, usize); 2] = [(Side::Arc, ARC, 5), (Side::CarStep1, CAR, 3)];
+
+fn run_tours(program: &Program, figures: &mut Figures) {
+    for (side, kind, most) in TOURS {
+        for c in 1..=most {
+            let walks = tours(side, c, 8000).unwrap_or_else(|said| {
+                println!("live: {said}");
+                exit(1);
+            });
+            let cases: Vec<Case> = walks.iter().map(|operations| Case { mode: DIGEST, input: input(kind, c, operations) }).collect();
+            cases.chunks(10).for_each(|some| run_states(program, some, figures));
+            println!("live: kind {kind}, capacity {c}: every call from every state, {} calls", walks.iter().map(Vec::len).sum::<usize>());
+        }
+    }
+}
+
 fn main() {
     let words: Vec<u64> = std::env::args().skip(1).map(|word| word.parse().expect("usage: live SECONDS [SEED]")).collect();
     let seconds = *words.first().expect("usage: live SECONDS [SEED]");
@@ -207,6 +228,9 @@ fn main() {
     }
     let all_heads: Vec<Case> = heads(STATES_MOST).into_iter().map(|input| Case { mode: WHOLE, input }).collect();
     run_states(&by_states, &all_heads, &mut figures);
+    if seconds >= TOURS_FROM {
+        run_tours(&by_states, &mut figures);
+    }
     while batches == 0 || began.elapsed() < Duration::from_secs(seconds) {
         let own = seed.wrapping_add(batches);
         let cases = batch(own);
@@ -222,7 +246,9 @@ fn main() {
     }
     let Figures { cases, calls, replays, replay_calls, capacities } = figures;
     println!(
-        "live: {} seconds, {batches} batches with the seeds {seed} to {}: by `states` {cases} cases, {calls} calls and as many whole states at {} capacities from {} to {}; by `replay` {replays} inputs, {replay_calls} calls: all the same as the Rust",
+        "live: {} seconds, {batches} batches with the seeds {seed} to {}\n\
+         live: by states {cases} cases, {calls} calls and as many whole states at {} capacities from {} to {}; by replay {replays} inputs, {replay_calls} calls\n\
+         live: all the same as the Rust",
         began.elapsed().as_secs(),
         seed.wrapping_add(batches - 1),
         capacities.len(),

@@ -77,13 +77,9 @@ fn long_cases(cases: &mut Vec<Case>) {
 
 /// Every call from every state that calls reach, at the smallest capacities.
 fn tour_cases(cases: &mut Vec<Case>) -> Result<(), String> {
-    for (side, kind, c, mode) in [
-        (Side::Arc, ARC, 1, WHOLE),
-        (Side::Arc, ARC, 2, WHOLE),
-        (Side::Arc, ARC, 3, DIGEST),
-        (Side::CarStep1, CAR, 1, WHOLE),
-        (Side::CarStep1, CAR, 2, DIGEST),
-    ] {
+    for (side, kind, c, mode) in
+        [(Side::Arc, ARC, 1, WHOLE), (Side::Arc, ARC, 2, WHOLE), (Side::Arc, ARC, 3, DIGEST), (Side::CarStep1, CAR, 1, WHOLE), (Side::CarStep1, CAR, 2, DIGEST)]
+    {
         for operations in tours(side, c, 2000)? {
             cases.push(Case { mode, input: input(kind, c, &operations) });
         }
