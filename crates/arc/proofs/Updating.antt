@@ -7,22 +7,24 @@ use Prim.Native.Nat.{ℕ}
 use lib.Dec.{eqb}
 use borrow.Author.Needs.{needs}
 use borrow.Author.Tests.{eqb-false}
-use Rattle.rules.specs.State.{Entry, withFrame, changed, without, Side, first, second, list}
+use Rattle.rules.specs.State.{Entry, withFrame, changed, without}
+use Rattle.rules.specs.Calls.{Old as OldOf}
 use Rattle.rules.specs.Arc.{Plain, toFront}
 use Rattle.rules.specs.Car.{Car, Resident, slots}
-use Rattle.rules.proofs.ListLaws.{changed-keys}
 use Rattle.rings.specs.Members.{Mem}
 use Rattle.residents.specs.Residents.{listsOf}
-use Rattle.parts.specs.Parts.{numberOf, stateOf, residentOf}
+use Rattle.parts.specs.Parts.{stateOf, residentOf}
 use Rattle.parts.specs.States.{atSlot, residentAt, framedAt, frontedAt}
 use Rattle.parts.proofs.Reading.{slots-read, in-both}
 use Rattle.parts.proofs.Maps.{map-append}
-use Rattle.parts.proofs.Lists.{list-is}
-use Rattle.area.specs.Area.{partsOf, sideOf}
+use Rattle.area.specs.Area.{partsOf}
 use Rattle.area.specs.Stored.{stateIn, Left, plainly, arcOf}
 use Rattle.store.specs.Store.{IsSlot}
-use Rattle.store.proofs.Steps.{number-of}
-use Rattle.arc.specs.Insert.{Updates}
+use Rattle.answers.specs.declared.Inserted.the-variants.{Old}
+use Rattle.calls.specs.Policy.{arcPolicy}
+use Rattle.common.specs.Stages.{Gives}
+use Rattle.common.proofs.Updating.{update-slot}
+use Rattle.arc.specs.Insert.{updated}
 use Rattle.arc.proofs.Plain.{without-plainly, fronted-plainly}
 
 -- ---- lists in which a frame is changed
@@ -74,16 +76,7 @@ fronted-framed e f s m =
     ∙ ap (λ (r : Resident). toFront (plainly r) (arcOf (framedAt e f s))) (framed-resident e f s m)
     ∙ front-framed (withFrame f (plainly (residentAt e s))) e f s refl
 
-framed-slots : (i : Side) (e f : ℕ) (s : Car) → slots (list i (framedAt e f s .lists)) ≡ slots (list i (s .lists))
-unfolding framedAt
-framed-slots first e f s = changed-keys (λ r. r .more .slot) (residentAt e s .page) (withFrame f) (s .lists .T1) (λ r. refl)
-framed-slots second e f s = changed-keys (λ r. r .more .slot) (residentAt e s .page) (withFrame f) (s .lists .T2) (λ r. refl)
-
 -- ---- the area
-slots-are : (i : Side) (c : ℕ) (w : List ℕ) → slots (list i (stateIn c w .lists)) ≡ listsOf (partsOf c w .residents) c (numberOf i)
-unfolding stateIn
-slots-are i c w = ap slots (list-is i c (partsOf c w)) ∙ slots-read c (partsOf c w) (listsOf (partsOf c w .residents) c (numberOf i))
-
 all-slots : (c : ℕ) (w : List ℕ) → slots (stateIn c w .lists .T1 ++ stateIn c w .lists .T2) ≡ listsOf (partsOf c w .residents) c 0 ++ listsOf (partsOf c w .residents) c 1
 unfolding stateIn stateOf
 all-slots c w =
@@ -93,23 +86,14 @@ all-slots c w =
     ap slots (sym (map-append (residentOf c p) a b)) ∙ slots-read c p (a ++ b)
 
 module _ (c : ℕ) (w : List ℕ) (e f : ℕ) (t : IsSlot c w e) (v : List ℕ) (l : Left c w v (framedAt e f (stateIn c w))) where
-  same-lists : (i : Side) → listsOf (partsOf c v .residents) c (numberOf i) ≡ listsOf (partsOf c w .residents) c (numberOf i)
-  same-lists i = sym (slots-are i c v) ∙ ap (λ (s : Car). slots (list i (s .lists))) (l .reads) ∙ framed-slots i e f (stateIn c w) ∙ slots-are i c w
-
   among : Mem e (slots (stateIn c w .lists .T1 ++ stateIn c w .lists .T2))
   among = subst (λ (m : List ℕ). Mem e m) (sym (all-slots c w)) (in-both (listsOf (partsOf c w .residents) c) (t .number) e (t .slot .side) (t .slot .member))
 
-  pub update-slot : IsSlot c v e
-  update-slot =
-      let q = same-lists (sideOf (t .number)) in
-      let z : listsOf (partsOf c v .residents) c (t .number) ≡ listsOf (partsOf c w .residents) c (t .number) = rw (number-of (t .number) (t .slot .side)) at q in
-      record { number = t .number; slot = record { stored = l .stored; side = t .slot .side; member = subst (λ (m : List ℕ). Mem e m) (sym z) (t .slot .member) } }
-
-  pub updates : (n : ℕ) → n ≡ residentAt e (stateIn c w) .frame → (u : List ℕ) → Left c v u (frontedAt e (stateIn c v)) → Updates c w u e f n
+  pub updates : (n : ℕ) → n ≡ residentAt e (stateIn c w) .frame → (u : List ℕ) → Left c v u (frontedAt e (stateIn c v)) → Gives arcPolicy (updated e f (stateIn c w)) c w u (Old n)
   updates n q u d =
       record {
         left = record { stored = d .stored; reads = ap arcOf (d .reads ∙ ap (frontedAt e) (l .reads)) ∙ fronted-framed e f (stateIn c w) among; kind = d .kind ∙ l .kind; size = d .size ∙ l .size; rest = d .rest ∙ l .rest };
-        old = q;
+        answer = ap (λ (m : ℕ). OldOf m) q;
       }
 
-pub ruleset laws = (update-slot, updates, needs)
+pub ruleset updateLaws = (update-slot, updates, needs)

@@ -1,3 +1,2 @@
 -- The definitions that the contracts of `arc` cite. Assumes nothing.
-pub mod Inserting
 pub mod Insert

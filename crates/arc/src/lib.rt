@@ -3,34 +3,33 @@
 ghost use mathlib.Core.Path.{_≡_};
 ghost use Prim.Native.Nat.{_+_, _<_};
 ghost use lib.ListN.{length};
-ghost use Rattle.rules.specs.State.{first, second, inAll};
+ghost use Rattle.rules.specs.State.{inAll};
 ghost use Rattle.rules.specs.Calls.{Get, Insert, Remove, Clear, Cleared, Peek, Contains, Len, Capacity, Target, T1Len, T2Len, B1Len, B2Len, Holds, Number, nowhere, ghost as inGhosts};
 ghost use Rattle.rules.specs.Ghosts.{dropOldest};
-ghost use Rattle.rules.specs.Stages.{ghostHit};
-ghost use Rattle.rules.specs.Arc.{trimmed};
+ghost use Rattle.rules.specs.Arc.{trimmed, replace, admitted, insertAt};
 ghost use Rattle.area.specs.Area.{sideOf};
-ghost use Rattle.area.specs.Stored.{Stored};
-ghost use Rattle.store.specs.Store.{HasGhost, IsSlot};
+ghost use Rattle.area.specs.Stored.{Stored, stateIn};
+ghost use Rattle.store.specs.Store.{IsSlot};
 ghost use Rattle.answers.specs.Answers.{gotIs, seenIs, goneIs, insertedIs};
 ghost use Rattle.calls.specs.Policy.{arcPolicy};
 ghost use Rattle.calls.specs.Inner.{Good, Did, Says};
-ghost use Rattle.arc.specs.Inserting.{arcIn, Stage, Turns, CanReplace, Puts};
-ghost use Rattle.arc.specs.Insert.{HasRoom, Makes, CanCome, Admits, Comes, Hits, Enters, Updates};
+ghost use Rattle.common.specs.Common.{HasResident};
+ghost use Rattle.common.specs.Stages.{HasRoom, CanCome, Comes, Hits, entered, Stage, Gives, Makes};
+ghost use Rattle.arc.specs.Insert.{arcIn, made, updated};
 
 // The frame of the page x, which comes to the front of T2.
 pub fn get(a: &mut [u64], c: usize, x: u64) -> answers::Got
     requires { ⌜ Good arcPolicy c (now a) ⌝ }
     ensures { λ r. ⌜ Did arcPolicy (Get x) c (now (a .entry)) (now (a .exit)) (gotIs r) ⌝ }
 {
-    match store::find(a, c, x) {
-        store::Found::Resident(e) => {
+    let slot = common::slot_of(a, c, x);
+    match slot {
+        common::Slot::At(e) => {
             let f = store::frame(a, c, e);
             store::to_front(a, c, e);
             answers::Got::Hit(f)
         }
-        store::Found::Recent(g) => answers::Got::Miss,
-        store::Found::Frequent(g) => answers::Got::Miss,
-        store::Found::Nowhere => answers::Got::Miss,
+        common::Slot::Nobody => answers::Got::Miss,
     }
 }
 
@@ -39,14 +38,13 @@ pub fn peek(a: &[u64], c: usize, x: u64) -> answers::Seen
     requires { ⌜ Good arcPolicy c (now a) ⌝ }
     ensures { λ r. ⌜ Says arcPolicy (Peek x) c (now (a .entry)) (seenIs r) ⌝ }
 {
-    match store::find(a, c, x) {
-        store::Found::Resident(e) => {
+    let slot = common::slot_of(a, c, x);
+    match slot {
+        common::Slot::At(e) => {
             let f = store::frame(a, c, e);
             answers::Seen::See(f)
         }
-        store::Found::Recent(g) => answers::Seen::No,
-        store::Found::Frequent(g) => answers::Seen::No,
-        store::Found::Nowhere => answers::Seen::No,
+        common::Slot::Nobody => answers::Seen::No,
     }
 }
 
@@ -55,11 +53,10 @@ pub fn contains(a: &[u64], c: usize, x: u64) -> bool
     requires { ⌜ Good arcPolicy c (now a) ⌝ }
     ensures { λ r. ⌜ Says arcPolicy (Contains x) c (now (a .entry)) (Holds r) ⌝ }
 {
-    match store::find(a, c, x) {
-        store::Found::Resident(e) => true,
-        store::Found::Recent(g) => false,
-        store::Found::Frequent(g) => false,
-        store::Found::Nowhere => false,
+    let slot = common::slot_of(a, c, x);
+    match slot {
+        common::Slot::At(_) => true,
+        common::Slot::Nobody => false,
     }
 }
 
@@ -73,12 +70,9 @@ pub fn insert(a: &mut [u64], c: usize, x: u64, f: u32) -> answers::Inserted
     }
     let found = store::find(a, c, x);
     match found {
-        store::Found::Resident(e) => {
-            let old = update(a, c, e, f);
-            answers::Inserted::Old(old)
-        }
-        store::Found::Recent(g) => back_b1(a, c, g, x, f),
-        store::Found::Frequent(g) => back_b2(a, c, g, x, f),
+        store::Found::Resident(e) => update(a, c, e, f),
+        store::Found::Recent(g) => ghost_hit(a, c, 0, g, x, f),
+        store::Found::Frequent(g) => ghost_hit(a, c, 1, g, x, f),
         store::Found::Nowhere => miss(a, c, x, f),
     }
 }
@@ -88,15 +82,14 @@ pub fn remove(a: &mut [u64], c: usize, x: u64) -> answers::Gone
     requires { ⌜ Good arcPolicy c (now a) ⌝ }
     ensures { λ r. ⌜ Did arcPolicy (Remove x) c (now (a .entry)) (now (a .exit)) (goneIs r) ⌝ }
 {
-    match store::find(a, c, x) {
-        store::Found::Resident(e) => {
+    let slot = common::slot_of(a, c, x);
+    match slot {
+        common::Slot::At(e) => {
             let f = store::frame(a, c, e);
             store::remove(a, c, e);
             answers::Gone::Frame(f)
         }
-        store::Found::Recent(g) => answers::Gone::Absent,
-        store::Found::Frequent(g) => answers::Gone::Absent,
-        store::Found::Nowhere => answers::Gone::Absent,
+        common::Slot::Nobody => answers::Gone::Absent,
     }
 }
 
@@ -113,9 +106,7 @@ pub fn len(a: &[u64], c: usize) -> usize
     requires { ⌜ Good arcPolicy c (now a) ⌝ }
     ensures { λ r. ⌜ Says arcPolicy Len c (now (a .entry)) (Number r) ⌝ }
 {
-    let t1 = store::listed(a, c, 0);
-    let t2 = store::listed(a, c, 1);
-    t1 + t2
+    common::residents(a, c)
 }
 
 pub fn capacity(a: &[u64], c: usize) -> usize
@@ -162,63 +153,31 @@ pub fn b2_len(a: &[u64], c: usize) -> usize
 }
 
 // ---- the stages of an insert, in 01's order.
-// The resident of a slot gets the frame f, and comes to the front of T2. The answer is the old frame.
-fn update(a: &mut [u64], c: usize, slot: usize, f: u32) -> u32
-    requires { ⌜ IsSlot c (now a) slot ⌝ }
-    ensures { λ r. ⌜ Updates c (now (a .entry)) (now (a .exit)) slot f r ⌝ }
+// The resident of slot e gets the frame f, and comes to the front of T2. The answer is the old frame.
+fn update(a: &mut [u64], c: usize, e: usize, f: u32) -> answers::Inserted
+    requires { ⌜ IsSlot c (now a) e ⌝ }
+    ensures { λ r. ⌜ Gives arcPolicy (updated e f (stateIn c (now (a .entry)))) c (now (a .entry)) (now (a .exit)) r ⌝ }
 {
-    let old = store::frame(a, c, slot);
-    store::set_frame(a, c, slot, f);
-    store::to_front(a, c, slot);
-    old
+    let old = store::frame(a, c, e);
+    store::set_frame(a, c, e, f);
+    store::to_front(a, c, e);
+    answers::Inserted::Old(old)
 }
 
-// A page of B1, or of B2: T2.
-fn back_b1(a: &mut [u64], c: usize, g: usize, x: u64, f: u32) -> answers::Inserted
-    requires { ⌜ Hits c (now a) first g x ⌝ }
-    ensures { λ r. ⌜ Enters c (now (a .entry)) (now (a .exit)) (inGhosts first) x f r ⌝ }
+// A page of B1 (i = 0) or B2 (i = 1): the target moves, and the page leaves its ghost list; T2.
+fn ghost_hit(a: &mut [u64], c: usize, i: usize, g: usize, x: u64, f: u32) -> answers::Inserted
+    requires { ⌜ Hits c (now a) i g x ⌝ }
+    ensures { λ r. ⌜ Gives arcPolicy (insertAt (inGhosts (sideOf i)) x f (arcIn c (now (a .entry)))) c (now (a .entry)) (now (a .exit)) r ⌝ }
 {
-    hit_b1(a, c, g, x);
-    enter(a, c, 1, x, f, false)
-}
-
-fn back_b2(a: &mut [u64], c: usize, g: usize, x: u64, f: u32) -> answers::Inserted
-    requires { ⌜ Hits c (now a) second g x ⌝ }
-    ensures { λ r. ⌜ Enters c (now (a .entry)) (now (a .exit)) (inGhosts second) x f r ⌝ }
-{
-    hit_b2(a, c, g, x);
-    enter(a, c, 1, x, f, true)
-}
-
-// It leaves its ghost list, and the target moves by 1.
-fn hit_b1(a: &mut [u64], c: usize, g: usize, x: u64)
-    requires { ⌜ HasGhost c (now a) first g x ⌝ }
-    ensures { λ _. ⌜ Stage c (now (a .entry)) (now (a .exit)) (ghostHit first x (arcIn c (now (a .entry)))) ⌝ }
-{
-    store::forget(a, c, 0, g, x);
-    let p = area::target(a);
-    if p < c as u64 {
-        store::set_target(a, c, p + 1);
-        return;
-    }
-}
-
-fn hit_b2(a: &mut [u64], c: usize, g: usize, x: u64)
-    requires { ⌜ HasGhost c (now a) second g x ⌝ }
-    ensures { λ _. ⌜ Stage c (now (a .entry)) (now (a .exit)) (ghostHit second x (arcIn c (now (a .entry)))) ⌝ }
-{
-    store::forget(a, c, 1, g, x);
-    let p = area::target(a);
-    if 0 < p {
-        store::set_target(a, c, p - 1);
-        return;
-    }
+    common::adapt(a, c, i, g, x);
+    let in_b2 = i == 1;
+    enter(a, c, 1, x, f, in_b2)
 }
 
 // A page that is in no list: T1.
 fn miss(a: &mut [u64], c: usize, x: u64, f: u32) -> answers::Inserted
     requires { ⌜ Comes c (now a) nowhere x ⌝ }
-    ensures { λ r. ⌜ Enters c (now (a .entry)) (now (a .exit)) nowhere x f r ⌝ }
+    ensures { λ r. ⌜ Gives arcPolicy (insertAt nowhere x f (arcIn c (now (a .entry)))) c (now (a .entry)) (now (a .exit)) r ⌝ }
 {
     trim(a, c);
     enter(a, c, 0, x, f, false)
@@ -227,7 +186,7 @@ fn miss(a: &mut [u64], c: usize, x: u64, f: u32) -> answers::Inserted
 // The ghost lists before a plain miss.
 fn trim(a: &mut [u64], c: usize)
     requires { ⌜ Stored c (now a) ⌝ }
-    ensures { λ _. ⌜ Stage c (now (a .entry)) (now (a .exit)) (trimmed (arcIn c (now (a .entry)))) ⌝ }
+    ensures { λ _. ⌜ Stage arcPolicy c (now (a .entry)) (now (a .exit)) (trimmed (arcIn c (now (a .entry)))) ⌝ }
 {
     let l1 = l1_len(a, c);
     if c <= l1 {
@@ -245,7 +204,7 @@ fn trim(a: &mut [u64], c: usize)
 // The oldest page of a ghost list is dropped, if there is one.
 fn evict_lru(a: &mut [u64], c: usize, i: usize)
     requires { ⌜ Stored c (now a) × (i < 2) ⌝ }
-    ensures { λ _. ⌜ Stage c (now (a .entry)) (now (a .exit)) (dropOldest (sideOf i) (arcIn c (now (a .entry)))) ⌝ }
+    ensures { λ _. ⌜ Stage arcPolicy c (now (a .entry)) (now (a .exit)) (dropOldest (sideOf i) (arcIn c (now (a .entry)))) ⌝ }
 {
     let n = store::recorded(a, c, i);
     if n == 0 {
@@ -254,7 +213,7 @@ fn evict_lru(a: &mut [u64], c: usize, i: usize)
     store::drop_oldest(a, c, i);
 }
 
-// The pages of T1 and B1, those of T1 and T2, and those of all four lists.
+// The pages of T1 and B1, and those of all four lists.
 fn l1_len(a: &[u64], c: usize) -> usize
     requires { ⌜ Stored c (now a) ⌝ }
     ensures { λ r. ⌜ r ≡ length (arcIn c (now (a .entry)) .T1) + length (arcIn c (now (a .entry)) .B1) ⌝ }
@@ -264,20 +223,11 @@ fn l1_len(a: &[u64], c: usize) -> usize
     t1 + b1
 }
 
-fn residents(a: &[u64], c: usize) -> usize
-    requires { ⌜ Stored c (now a) ⌝ }
-    ensures { λ r. ⌜ r ≡ length (arcIn c (now (a .entry)) .T1) + length (arcIn c (now (a .entry)) .T2) ⌝ }
-{
-    let t1 = store::listed(a, c, 0);
-    let t2 = store::listed(a, c, 1);
-    t1 + t2
-}
-
 fn total(a: &[u64], c: usize) -> usize
     requires { ⌜ Stored c (now a) ⌝ }
     ensures { λ r. ⌜ r ≡ inAll (arcIn c (now (a .entry))) ⌝ }
 {
-    let t = residents(a, c);
+    let t = common::residents(a, c);
     let b1 = store::recorded(a, c, 0);
     let b2 = store::recorded(a, c, 1);
     t + b1 + b2
@@ -286,7 +236,7 @@ fn total(a: &[u64], c: usize) -> usize
 // A page that no list has: replace if full; it goes to the front of T1 (j = 0) or T2 (j = 1).
 fn enter(a: &mut [u64], c: usize, j: usize, x: u64, f: u32, in_b2: bool) -> answers::Inserted
     requires { ⌜ CanCome c (now a) j x ⌝ }
-    ensures { λ r. ⌜ Admits c (now (a .entry)) (now (a .exit)) j x f «in_b2» r ⌝ }
+    ensures { λ r. ⌜ Gives arcPolicy (entered (admitted (sideOf j) x f) (made «in_b2» (arcIn c (now (a .entry))))) c (now (a .entry)) (now (a .exit)) r ⌝ }
 {
     let r = make_room(a, c, in_b2);
     store::enter_front(a, c, j, x, f, 0);
@@ -296,65 +246,28 @@ fn enter(a: &mut [u64], c: usize, j: usize, x: u64, f: u32, in_b2: bool) -> answ
 // Replace if full.
 fn make_room(a: &mut [u64], c: usize, in_b2: bool) -> answers::Inserted
     requires { ⌜ HasRoom c (now a) ⌝ }
-    ensures { λ r. ⌜ Makes c (now (a .entry)) (now (a .exit)) «in_b2» r ⌝ }
+    ensures { λ r. ⌜ Makes arcPolicy (made «in_b2» (arcIn c (now (a .entry)))) c (now (a .entry)) (now (a .exit)) r ⌝ }
 {
-    let n = residents(a, c);
+    let n = common::residents(a, c);
     if n < c {
         return answers::Inserted::New;
     }
-    let v = replace(a, c, in_b2);
-    let place = answers::recorded_in(v.side);
+    replace(a, c, in_b2)
+}
+
+// The oldest of T1 or T2 leaves, and is recorded in the ghost list of its side. One step.
+fn replace(a: &mut [u64], c: usize, in_b2: bool) -> answers::Inserted
+    requires { ⌜ HasResident c (now a) ⌝ }
+    ensures { λ r. ⌜ Makes arcPolicy (replace «in_b2» (arcIn c (now (a .entry)))) c (now (a .entry)) (now (a .exit)) r ⌝ }
+{
+    let i = common::turn(a, c, in_b2);
+    let e = store::last(a, c, i);
+    let out = store::evict(a, c, i, e);
+    let place = answers::recorded_in(i);
     answers::Inserted::Out {
-        page: v.page,
-        frame: v.frame,
+        page: out.page,
+        frame: out.frame,
         place,
         steps: 1,
     }
-}
-
-// A victim: its page and frame, and 0 where it came from T1, 1 where from T2.
-struct Victim {
-    page: u64,
-    frame: u32,
-    side: usize,
-}
-
-// The oldest of T1 or T2 leaves, and is recorded in the ghost list of its side.
-fn replace(a: &mut [u64], c: usize, in_b2: bool) -> Victim
-    requires { ⌜ CanReplace c (now a) ⌝ }
-    ensures { λ r. ⌜ Puts «in_b2» c (now (a .entry)) (now (a .exit)) r ⌝ }
-{
-    let p = area::target(a);
-    let t1 = store::listed(a, c, 0);
-    let t2 = store::listed(a, c, 1);
-    let side = turn(in_b2, p as usize, t1, t2);
-    let e = store::last(a, c, side);
-    let o = store::evict(a, c, side, e);
-    Victim {
-        page: o.page,
-        frame: o.frame,
-        side,
-    }
-}
-
-// The list to replace from: 0 for T1, 1 for T2. T1 where it is above the target, or T2 is empty; at the target on a B2 hit alone.
-fn turn(in_b2: bool, p: usize, t1: usize, t2: usize) -> usize
-    ensures { λ r. ⌜ Turns «in_b2» p t1 t2 r ⌝ }
-{
-    if p < t1 {
-        return 0;
-    }
-    if t2 == 0 {
-        return 0;
-    }
-    if t1 == 0 {
-        return 1;
-    }
-    if t1 < p {
-        return 1;
-    }
-    if in_b2 {
-        return 0;
-    }
-    1
 }

@@ -3,5 +3,3 @@ pub mod Calling
 pub mod Replacing
 pub mod Inserting
 pub mod Updating
-pub mod Whole
-pub mod Laws

@@ -1,78 +1,43 @@
--- The replacement. In order: the clock of a step; a step; the steps of a loop. Assumes nothing.
+-- The replacement. In order: a step; the steps of a loop. Assumes nothing.
 use mathlib.Core.Path.{_≡_, refl, sym, subst, ap, _∙_}
-use mathlib.Core.Bool.{Bool, true, false, _||_}
+use mathlib.Core.Bool.{Bool, true, false}
 use mathlib.Core.List.{List, [], _∷_}
-use Prim.Native.Nat.{ℕ, zero, suc, _+_, _*_, _<_, _≤_}
+use Prim.Native.Nat.{ℕ, suc, _+_, _<_, _≤_}
 use native.Mathlib.Omega.{arith}
-use lib.Dec.{eqb, ltb}
 use lib.ListN.{length, drop}
 use borrow.Author.Needs.{needs}
-use borrow.Author.Tests.{ltb-true, ltb-false, lt-ltb, le-ltb, eq-eqb, ne-eqb}
 use Rattle.rules.specs.Lists.{one}
-use Rattle.rules.specs.State.{Side, first, second, list, setList, residents, leaves, Lists}
-use Rattle.rules.specs.Calls.{Victim, out, ghost, Replaced, replaced, steps}
+use Rattle.rules.specs.State.{Side, second, list, setList, residents, leaves, Lists}
+use Rattle.rules.specs.Calls.{Victim, out, ghost, New, Replaced, steps}
 use Rattle.rules.specs.Ghosts.{recordIn}
-use Rattle.rules.specs.Stages.{prefersT1, fromT1, side, turn}
-use Rattle.rules.specs.Car.{Resident, Clocked, Car, car, withBit, marks, referenced, atEnd, Hand, at, handOf, hand, passed, evicted, stepThen, replace}
-use Rattle.rules.proofs.StateLaws.{turn-some}
-use Rattle.rules.proofs.Sweep.{pass-law}
+use Rattle.rules.specs.Car.{Resident, Clocked, Car, car, withBit, marks, referenced, atEnd, at, handOf, hand, passed, evicted, stepThen, replace}
+use Rattle.rules.proofs.Sweep.{pass-law, replace-swept}
 use Rattle.rules.proofs.Trail.{replace-passes, replace-evicts}
-use Rattle.parts.specs.Parts.{residentOf, stateOf}
+use Rattle.parts.specs.Parts.{stateOf}
 use Rattle.parts.specs.States.{residentAt, endedAt, evictedAt}
 use Rattle.parts.proofs.Reading.{resident-at, slot-is, state-sound}
 use Rattle.parts.proofs.Ends.{leaves-first}
-use Rattle.area.specs.Area.{partsOf, sideOf, targetOf, endAt}
+use Rattle.area.specs.Area.{partsOf, sideOf}
 use Rattle.area.specs.Stored.{Stored, stateIn, Left}
-use Rattle.store.specs.Store.{HasSlot, IsSlot, HasSome, FirstIs, Evicts}
+use Rattle.store.specs.Store.{IsSlot, FirstIs, Evicts}
 use Rattle.store.specs.declared.Out.{Out as StoreOut}
-use Rattle.car.specs.Replace.{TurnIs, HasResident, Passes, Ends, StepIs, Replaces}
+use Rattle.answers.specs.Answers.{placeIs, placeOfList}
+use Rattle.answers.specs.declared.Place as answers
+use Rattle.answers.specs.declared.Inserted.the-variants as Inserted
+use Rattle.calls.specs.Policy.{carPolicy}
+use Rattle.common.specs.Common.{HasResident, TurnIs}
+use Rattle.common.specs.Stages.{Makes}
+use Rattle.common.proofs.Turning.{turn-has}
+use Rattle.common.proofs.Entering.{makes-room}
+use Rattle.car.specs.Replace.{StepIs}
 use Rattle.car.specs.declared.Stepped as declaredStep
 use Rattle.car.specs.declared.Stepped.the-variants.{Passed, Out}
-use Rattle.car.specs.declared.Victim as declared
 
--- ---- ARC's test
-pub prefers-none : (n t : ℕ) (h : Bool) → n ≡ 0 → false ≡ prefersT1 h t n
-prefers-none n t h q = rw q refl
-
-some-test : (n : ℕ) → (n ≡ 0 → ⊥) → ltb 0 n ≡ true
-some-test n z = lt-ltb 0 n (omega arith)
-
-pub prefers-longer : (n t : ℕ) (h : Bool) → (n ≡ 0 → ⊥) → t < n → true ≡ prefersT1 h t n
-prefers-longer n t h z l = rw (some-test n z, lt-ltb t n l) refl
-
-pub prefers-equal : (n t : ℕ) (h : Bool) → (n ≡ 0 → ⊥) → n ≤ t → n ≡ t → h ≡ prefersT1 h t n
-prefers-equal n t h z l q = rw (some-test n z, le-ltb t n l, eq-eqb n t q) refl
-
-pub prefers-shorter : (n t : ℕ) (h : Bool) → (n ≡ 0 → ⊥) → n ≤ t → (n ≡ t → ⊥) → false ≡ prefersT1 h t n
-prefers-shorter n t h z l q = rw (some-test n z, le-ltb t n l, ne-eqb n t q) refl
-
-module _ (c : ℕ) (w : List ℕ) (s : Stored c w) where
-  pub stored-header : 64 ≤ length w
-  stored-header = let h : 24 * c + 64 ≤ length w = s .size in omega arith
-
-  target-is : stateIn c w .lists .target ≡ targetOf w
-  unfolding stateIn stateOf partsOf
-  target-is = refl
-
-  module _ (hit : Bool) (n t : ℕ) (p : n ≡ length (list (sideOf 0) (stateIn c w .lists))) (q : t ≡ targetOf w) (b : Bool) (k : b ≡ prefersT1 hit t n) where
-    test-is : prefersT1 hit (stateIn c w .lists .target) (length (stateIn c w .lists .T1)) ≡ b
-    test-is = sym (k ∙ ap (λ (m : ℕ). prefersT1 hit t m) p ∙ ap (λ (m : ℕ). prefersT1 hit m (length (stateIn c w .lists .T1))) (q ∙ sym target-is))
-
-    pub turn-recent : b ≡ true → TurnIs c w hit 0
-    turn-recent z = record { side = omega arith; is = rw (test-is ∙ z) refl }
-
-    module _ (m : ℕ) (u : m ≡ length (list (sideOf 1) (stateIn c w .lists))) where
-      pub turn-empty : b ≡ false → m ≡ 0 → TurnIs c w hit 0
-      turn-empty z y = record { side = omega arith; is = rw (test-is ∙ z, eq-eqb (length (stateIn c w .lists .T2)) 0 (sym u ∙ y)) refl }
-
-      pub turn-frequent : b ≡ false → (m ≡ 0 → ⊥) → TurnIs c w hit 1
-      turn-frequent z y = record { side = omega arith; is = rw (test-is ∙ z, ne-eqb (length (stateIn c w .lists .T2)) 0 (λ x. y (u ∙ x))) refl }
+pub turn-stored : (c : ℕ) (w : List ℕ) → HasResident c w → Stored c w
+turn-stored c w h = h .stored
 
 -- ---- a step
 module _ (c : ℕ) (w : List ℕ) (h : HasResident c w) (hit : Bool) (i : ℕ) (t : TurnIs c w hit i) where
-  pub step-has : HasSome c w i
-  step-has = record { stored = h .stored; side = t .side; some = rw (t .is) (turn-some hit (stateIn c w .lists) (h .some)) }
-
   module _ (e : ℕ) (f : FirstIs c w i e) where
     pub step-slot : IsSlot c w e
     step-slot = record { number = i; slot = f .slot }
@@ -116,13 +81,14 @@ module _ (c : ℕ) (w : List ℕ) (h : HasResident c w) (hit : Bool) (i : ℕ) (
             marks = p .one-mark ∙ ap (λ (x : Car). referenced (x .lists) + 1) (sym st);
           }
 
-      pub step-ends : b ≡ false → (o : StoreOut) → Evicts c w v e o (evictedAt (sideOf i) e (stateIn c w)) → StepIs c w v hit (Out (o .page) (o .frame) i)
-      step-ends z o d =
+      pub step-ends : b ≡ false → (o : StoreOut) → Evicts c w v e o (evictedAt (sideOf i) e (stateIn c w)) → (k : answers.Place) → placeIs k ≡ placeOfList i → StepIs c w v hit (Out (o .page) (o .frame) k)
+      step-ends z o d k q =
           let st : stateIn c v ≡ evicted (sideOf i) (residentAt e (stateIn c w)) rest (stateIn c w) .state = d .left .reads ∙ evicted-is in
           let l = d .left in
           record {
+            side = sideOf i;
             left = record { stored = l .stored; reads = refl; kind = l .kind; size = l .size; rest = l .rest };
-            is = replace-evicts hit (stateIn c w) (sideOf i) (residentAt e (stateIn c w)) rest hand-is (sym is ∙ z) ∙ (rw (d .page, d .frame, st) refl);
+            is = replace-evicts hit (stateIn c w) (sideOf i) (residentAt e (stateIn c w)) rest hand-is (sym is ∙ z) ∙ (rw (q, d .page, d .frame, st) refl);
           }
 
 -- ---- the steps of a loop: after n - 1 of them the area is w, and the replacement of w₀ is these and then the replacement of w
@@ -185,25 +151,22 @@ module _ (c : ℕ) (w₀ w : List ℕ) (hit : Bool) (n : ℕ) (h : Sweeps c w₀
           bound = omega (arith, h .bound, p .marks);
         }
 
-    pub sweep-ends : (p f i : ℕ) → r ≡ Out p f i → Replaces c w₀ v hit (record { page = p; frame = f; list = i; steps = n })
-    sweep-ends p f i q =
-        let e = step-as (Out p f i) q in
-        record {
-          left = record { stored = e .left .stored; reads = sym (h .state ∙ ap (λ (x : Replaced Car). x .state) (e .is)); kind = e .left .kind ∙ h .left .kind; size = e .left .size ∙ h .left .size; rest = e .left .rest ∙ h .left .rest };
-          victim = sym (h .victim ∙ ap (λ (x : Replaced Car). x .victim) (e .is));
-          steps = omega (arith, h .steps, ap (λ (x : Replaced Car). length (x .trail)) (e .is));
-        }
+    pub sweep-ends : HasResident c w₀ → (p f : ℕ) (k : answers.Place) → r ≡ Out p f k → Makes carPolicy (replace hit (stateIn c w₀)) c w₀ v (Inserted.Out p f k n)
+    sweep-ends o p f k q =
+        let e = step-as (Out p f k) q in
+        let st : stateIn c v ≡ replace hit (stateIn c w₀) .state = sym (h .state ∙ ap (λ (x : Replaced Car). x .state) (e .is)) in
+        let victim : out p f (placeIs k) ≡ replace hit (stateIn c w₀) .victim = sym (h .victim ∙ ap (λ (x : Replaced Car). x .victim) (e .is)) in
+        let count : n ≡ steps (replace hit (stateIn c w₀)) = omega (arith, h .steps, ap (λ (x : Replaced Car). length (x .trail)) (e .is)) in
+        let s = replace-swept hit (stateIn c w₀) (o .some) in
+        makes-room carPolicy (replace hit (stateIn c w₀)) c w₀ v (Inserted.Out p f k n) (o .stored)
+        (record { stored = e .left .stored; reads = st; kind = e .left .kind ∙ h .left .kind; size = e .left .size ∙ h .left .size; rest = e .left .rest ∙ h .left .rest })
+        (ap (λ (x : Victim). New x n) victim ∙ ap (λ (m : ℕ). New (replace hit (stateIn c w₀) .victim) m) count)
+        (s .less ∙ ap (λ (t : Car). residents (t .lists) + 1) (sym st))
+        (λ y. rw st (s .fewer y))
 
 pub ruleset replaceLaws = (
-  prefers-none,
-  prefers-longer,
-  prefers-equal,
-  prefers-shorter,
-  stored-header,
-  turn-recent,
-  turn-empty,
-  turn-frequent,
-  step-has,
+  turn-stored,
+  turn-has,
   step-slot,
   step-passes,
   step-ends,

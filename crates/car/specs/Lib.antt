@@ -1,4 +1,3 @@
 -- The definitions that the contracts of `car` cite. Assumes nothing.
-pub mod Car
-pub mod Replace
 pub mod Insert
+pub mod Replace

@@ -1,12 +1,13 @@
-use Rattle.arc.proofs.Laws.{laws}
+-- `arc::b1_len` meets its contract. Assumes nothing.
+use Rattle.arc.proofs.Calling.{callLaws}
 use Rattle.arc.proofs.b1_len.Statement.{statement}
 use Rattle.arc.proofs.b1_len.Tie as tie
 
 recorded-requires : tie.Need-recorded-requires
-recorded-requires c κs = search laws
+recorded-requires c κs = search callLaws
 
 returns : tie.Need-returns
-returns c = search laws
+returns c = search callLaws
 
 pub b1-len-spec : {M : Type 1} → statement M
 b1-len-spec = tie.close (tie.spec recorded-requires returns)

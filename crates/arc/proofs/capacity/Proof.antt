@@ -1,9 +1,10 @@
-use Rattle.arc.proofs.Laws.{laws}
+-- `arc::capacity` meets its contract. Assumes nothing.
+use Rattle.arc.proofs.Calling.{callLaws}
 use Rattle.arc.proofs.capacity.Statement.{statement}
 use Rattle.arc.proofs.capacity.Tie as tie
 
 returns : tie.Need-returns
-returns c = search laws
+returns c = search callLaws
 
 pub capacity-spec : {M : Type 1} → statement M
 capacity-spec = tie.close (tie.spec returns)

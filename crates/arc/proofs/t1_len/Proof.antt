@@ -1,12 +1,13 @@
-use Rattle.arc.proofs.Laws.{laws}
+-- `arc::t1_len` meets its contract. Assumes nothing.
+use Rattle.arc.proofs.Calling.{callLaws}
 use Rattle.arc.proofs.t1_len.Statement.{statement}
 use Rattle.arc.proofs.t1_len.Tie as tie
 
 listed-requires : tie.Need-listed-requires
-listed-requires c κs = search laws
+listed-requires c κs = search callLaws
 
 returns : tie.Need-returns
-returns c = search laws
+returns c = search callLaws
 
 pub t1-len-spec : {M : Type 1} → statement M
 t1-len-spec = tie.close (tie.spec listed-requires returns)

@@ -1,16 +1,16 @@
 -- `car::clear` meets its contract. Assumes nothing.
-use Rattle.car.proofs.Laws.{laws}
+use Rattle.car.proofs.Calling.{callLaws}
 use Rattle.car.proofs.clear.Statement.{statement}
 use Rattle.car.proofs.clear.Tie as tie
 
 clear-requires : tie.Need-clear-requires
-clear-requires c κs = search laws
+clear-requires c κs = search callLaws
 
 same-length : tie.Need-same-length
-same-length c = search laws
+same-length c = search callLaws
 
 returns : tie.Need-returns
-returns c = search laws
+returns c = search callLaws
 
 pub clear-spec : {M : Type 1} → statement M
 clear-spec = tie.close (tie.spec clear-requires same-length returns)

@@ -1,5 +1,5 @@
 -- `car::insert` meets its contract. Assumes nothing.
-use Rattle.car.proofs.Whole.{wholeLaws}
+use Rattle.car.proofs.Inserting.{wholeLaws}
 use Rattle.car.proofs.insert.Statement.{statement}
 use Rattle.car.proofs.insert.Tie as tie
 

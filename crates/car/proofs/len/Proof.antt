@@ -1,19 +1,13 @@
 -- `car::len` meets its contract. Assumes nothing.
-use Rattle.car.proofs.Laws.{laws}
+use Rattle.car.proofs.Calling.{callLaws}
 use Rattle.car.proofs.len.Statement.{statement}
 use Rattle.car.proofs.len.Tie as tie
 
-listed-requires : tie.Need-listed-requires
-listed-requires c κs = search laws
-
-listed-requires-2 : tie.Need-listed-requires-2
-listed-requires-2 c κs = search laws
-
-add-result : tie.Need-add-result
-add-result c = search laws
+residents-requires : tie.Need-residents-requires
+residents-requires c κs = search callLaws
 
 returns : tie.Need-returns
-returns c = search laws
+returns c = search callLaws
 
 pub len-spec : {M : Type 1} → statement M
-len-spec = tie.close (tie.spec listed-requires listed-requires-2 add-result returns)
+len-spec = tie.close (tie.spec residents-requires returns)

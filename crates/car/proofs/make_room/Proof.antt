@@ -3,8 +3,8 @@ use Rattle.car.proofs.Inserting.{insertLaws}
 use Rattle.car.proofs.make_room.Statement.{statement}
 use Rattle.car.proofs.make_room.Tie as tie
 
-held-requires : tie.Need-held-requires
-held-requires c κs = search insertLaws
+residents-requires : tie.Need-residents-requires
+residents-requires c κs = search insertLaws
 
 same-length : tie.Need-same-length
 same-length c = search insertLaws
@@ -15,9 +15,6 @@ returns c = search insertLaws
 replace-requires : tie.Need-replace-requires
 replace-requires c κs = search insertLaws
 
-recorded-in-requires : tie.Need-recorded-in-requires
-recorded-in-requires c κs = search insertLaws
-
 same-length-2 : tie.Need-same-length-2
 same-length-2 c = search insertLaws
 
@@ -26,4 +23,4 @@ returns-2 c = search insertLaws
 
 pub make-room-spec : {M : Type 1} → statement M
 make-room-spec =
-    tie.close (tie.spec held-requires same-length returns replace-requires recorded-in-requires same-length-2 returns-2)
+    tie.close (tie.spec residents-requires same-length returns replace-requires same-length-2 returns-2)

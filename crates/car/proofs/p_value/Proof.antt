@@ -1,13 +1,13 @@
 -- `car::p_value` meets its contract. Assumes nothing.
-use Rattle.car.proofs.Laws.{laws}
+use Rattle.car.proofs.Calling.{callLaws}
 use Rattle.car.proofs.p_value.Statement.{statement}
 use Rattle.car.proofs.p_value.Tie as tie
 
 target-requires : tie.Need-target-requires
-target-requires c κs = search laws
+target-requires c κs = search callLaws
 
 returns : tie.Need-returns
-returns c = search laws
+returns c = search callLaws
 
 pub p-value-spec : {M : Type 1} → statement M
 p-value-spec = tie.close (tie.spec target-requires returns)

@@ -1,34 +1,34 @@
 -- `car::remove` meets its contract. Assumes nothing.
-use Rattle.car.proofs.Laws.{laws}
+use Rattle.car.proofs.Calling.{callLaws}
 use Rattle.car.proofs.remove.Statement.{statement}
 use Rattle.car.proofs.remove.Tie as tie
 
 slot-of-requires : tie.Need-slot-of-requires
-slot-of-requires c κs = search laws
+slot-of-requires c κs = search callLaws
 
 enum-known-slot : tie.Need-enum-known-slot
-enum-known-slot c = search laws
+enum-known-slot c = search callLaws
 
 frame-requires : tie.Need-frame-requires
-frame-requires c κs = search laws
+frame-requires c κs = search callLaws
 
 remove-requires : tie.Need-remove-requires
-remove-requires c κs = search laws
+remove-requires c κs = search callLaws
 
 enum-told : tie.Need-enum-told
-enum-told c = search laws
+enum-told c = search callLaws
 
 same-length : tie.Need-same-length
-same-length c = search laws
+same-length c = search callLaws
 
 returns : tie.Need-returns
-returns c = search laws
+returns c = search callLaws
 
 same-length-2 : tie.Need-same-length-2
-same-length-2 c = search laws
+same-length-2 c = search callLaws
 
 returns-2 : tie.Need-returns-2
-returns-2 c = search laws
+returns-2 c = search callLaws
 
 pub remove-spec : {M : Type 1} → statement M
 remove-spec =

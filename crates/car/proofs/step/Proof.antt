@@ -24,6 +24,9 @@ returns c = search replaceLaws
 evict-requires : tie.Need-evict-requires
 evict-requires c κs = search replaceLaws
 
+recorded-in-requires : tie.Need-recorded-in-requires
+recorded-in-requires c κs = search replaceLaws
+
 same-length-2 : tie.Need-same-length-2
 same-length-2 c = search replaceLaws
 
@@ -41,5 +44,6 @@ step-spec =
     same-length
     returns
     evict-requires
+    recorded-in-requires
     same-length-2
     returns-2)

@@ -1,13 +1,13 @@
 -- `car::t1_len` meets its contract. Assumes nothing.
-use Rattle.car.proofs.Laws.{laws}
+use Rattle.car.proofs.Calling.{callLaws}
 use Rattle.car.proofs.t1_len.Statement.{statement}
 use Rattle.car.proofs.t1_len.Tie as tie
 
 listed-requires : tie.Need-listed-requires
-listed-requires c κs = search laws
+listed-requires c κs = search callLaws
 
 returns : tie.Need-returns
-returns c = search laws
+returns c = search callLaws
 
 pub t1-len-spec : {M : Type 1} → statement M
 t1-len-spec = tie.close (tie.spec listed-requires returns)

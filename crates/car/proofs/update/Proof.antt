@@ -1,5 +1,6 @@
 -- `car::update` meets its contract. Assumes nothing.
-use Rattle.car.proofs.Updating.{update-slot, updateLaws}
+use Rattle.common.proofs.Updating.{update-slot}
+use Rattle.car.proofs.Updating.{updateLaws}
 use Rattle.car.proofs.update.Statement.{statement}
 use Rattle.car.proofs.update.Tie as tie
 

@@ -1,0 +1,10 @@
+-- The laws that both policies share. Assumes nothing.
+pub mod Finding
+pub mod Turning
+pub mod Hitting
+pub mod Staging
+pub mod Lawful
+pub mod Asking
+pub mod Entering
+pub mod Updating
+pub mod Laws

@@ -1,0 +1,3 @@
+-- The definitions that the contracts of both policies cite. Assumes nothing.
+pub mod Common
+pub mod Stages

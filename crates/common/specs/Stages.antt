@@ -1,0 +1,64 @@
+-- What the stages of an insert ask and leave, over the policy. Assumes nothing.
+use mathlib.Core.Path.{_≡_}
+use mathlib.Core.Option.{none}
+use mathlib.Core.List.{List}
+use Prim.Native.Nat.{ℕ, _<_, _≤_}
+use lib.ListN.{length, drop}
+use Rattle.rules.specs.State.{resident, seen}
+use Rattle.rules.specs.Calls.{Place, New, ghost, Replaced, steps, Done, done}
+use Rattle.rules.specs.Stages.{placeOf}
+use Rattle.area.specs.Area.{kindOf, endAt, sideOf}
+use Rattle.area.specs.Stored.{Stored, stateIn}
+use Rattle.store.specs.Store.{HasGhost}
+use Rattle.answers.specs.Answers.{insertedIs}
+use Rattle.answers.specs.declared.Inserted.{Inserted}
+use Rattle.calls.specs.Policy.{Policy, stateOf}
+
+-- ---- what is asked
+-- an area of a cache that can hold a page
+pub record HasRoom (c : ℕ) (w : List ℕ) : Type 0 where
+  pub stored : Stored c w
+  pub some : 0 < c
+
+-- a page that no list has may come, to T1 (j = 0) or T2 (j = 1)
+pub record CanCome (c : ℕ) (w : List ℕ) (j x : ℕ) : Type 0 where
+  pub can : HasRoom c w
+  pub side : j < 2
+  pub absent : seen x (stateIn c w .lists) ≡ 0
+
+-- a page that is in the place p, and no resident's, may come
+pub record Comes (c : ℕ) (w : List ℕ) (p : Place) (x : ℕ) : Type 0 where
+  pub can : HasRoom c w
+  pub fresh : resident x (stateIn c w .lists) ≡ none
+  pub place : placeOf x (stateIn c w .lists) ≡ p
+
+-- a ghost hit: cell g of the ghost list of side i holds the page
+pub record Hits (c : ℕ) (w : List ℕ) (i g x : ℕ) : Type 0 where
+  pub side : i < 2
+  pub cell : HasGhost c w (sideOf i) g x
+  pub comes : Comes c w (ghost (sideOf i)) x
+
+-- the entry of a page after a replacement, by what puts the page in
+abbrev pub entered : {S : Type 0} → (S → S) → Replaced S → Done S
+entered put m = done (New (m .victim) (steps m)) (put (m .state))
+
+module _ (P : Policy) where
+  -- ---- what is left: an area that the policy reads as s, of the same kind and length, and with nothing past the area's need changed
+  pub record Stage (c : ℕ) (w v : List ℕ) (s : P .State) : Type 0 where
+    pub stored : Stored c v
+    pub reads : stateOf P c v ≡ s
+    pub kind : kindOf v ≡ kindOf w
+    pub size : length v ≡ length w
+    pub rest : drop (endAt c) v ≡ drop (endAt c) w
+
+  -- the state and the answer of d
+  pub record Gives (d : Done (P .State)) (c : ℕ) (w v : List ℕ) (r : Inserted) : Type 0 where
+    pub left : Stage c w v (d .state)
+    pub answer : insertedIs r ≡ d .answer
+
+  -- the state and the victim of the replacement m; a slot is free then, and no page has come
+  pub record Makes (m : Replaced (P .State)) (c : ℕ) (w v : List ℕ) (r : Inserted) : Type 0 where
+    pub left : Stage c w v (m .state)
+    pub answer : insertedIs r ≡ New (m .victim) (steps m)
+    pub room : 0 < length (stateIn c v .free)
+    pub fewer : (y : ℕ) → seen y (stateIn c v .lists) ≤ seen y (stateIn c w .lists)
