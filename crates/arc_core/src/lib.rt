@@ -7,7 +7,10 @@ use answers::Got;
 use answers::Held;
 use answers::Inserted;
 use answers::Seen;
+use calls::Kind;
 use fresh::Made;
+use listing::Listed;
+use listing::Record;
 use opening::Opened;
 ghost use mathlib.Core.Path.{_≡_};
 ghost use Prim.Native.Nat.{min};
@@ -16,6 +19,7 @@ ghost use Rattle.rules.specs.Calls.{Get, Insert, Remove, Clear, Peek, Contains,
 ghost use Rattle.rules.specs.Public.{wordsNeeded};
 ghost use Rattle.answers.specs.Answers.{gotIs, seenIs, heldIs, insertedIs, goneIs, clearedIs, countedIs};
 ghost use Rattle.calls.specs.Policy.{arcPolicy};
+ghost use Rattle.listing.specs.Outcome.{ListingOutcome};
 ghost use Rattle.calls.specs.Outer.{Outcome, Told, Making, madeIs};
 
 // ARC: its largest capacity, the words that a capacity needs, and the calls.
@@ -170,5 +174,12 @@ impl ArcCore {
             Opened::Cache(c) => Counted::Number(arc::b2_len(area, c) as u64),
             Opened::Refused => Counted::Refused,
         }
+    }
+
+    // The residents into records, T1 newest to oldest and then T2 likewise; how many, or a refusal.
+    pub fn list(area: &[u64], records: &mut [Record]) -> Listed
+        ensures { λ r. ⌜ ListingOutcome arcPolicy (now (area .entry)) (now (records .entry)) (now (records .exit)) r ⌝ }
+    {
+        listing::list(area, Kind::Arc, records)
     }
 }
