@@ -7,7 +7,10 @@ use answers::Got;
 use answers::Held;
 use answers::Inserted;
 use answers::Seen;
+use calls::Kind;
 use fresh::Made;
+use listing::Listed;
+use listing::Record;
 use opening::Opened;
 ghost use mathlib.Core.Path.{_≡_};
 ghost use Prim.Native.Nat.{min};
@@ -16,6 +19,7 @@ ghost use Rattle.rules.specs.Calls.{Get, Insert, Remove, Clear, Peek, Contains,
 ghost use Rattle.rules.specs.Public.{wordsNeeded};
 ghost use Rattle.answers.specs.Answers.{gotIs, seenIs, heldIs, insertedIs, goneIs, clearedIs, countedIs};
 ghost use Rattle.calls.specs.Policy.{carPolicy};
+ghost use Rattle.listing.specs.Outcome.{ListingOutcome};
 ghost use Rattle.calls.specs.Outer.{Outcome, Told, Making, madeIs};
 
 // CAR: its largest capacity, the words that a capacity needs, and the calls.
@@ -170,5 +174,12 @@ impl CarCore {
             Opened::Cache(c) => Counted::Number(car::b2_len(area, c) as u64),
             Opened::Refused => Counted::Refused,
         }
+    }
+
+    // The residents into records, by rising slot; how many, or a refusal.
+    pub fn list(area: &[u64], records: &mut [Record]) -> Listed
+        ensures { λ r. ⌜ ListingOutcome carPolicy (now (area .entry)) (now (records .entry)) (now (records .exit)) r ⌝ }
+    {
+        listing::list(area, Kind::Car, records)
     }
 }
