@@ -7,11 +7,16 @@ use answers::Got;
 use answers::Held;
 use answers::Inserted;
 use answers::Seen;
+<<<<<<< HEAD
 use batch::Counts;
 use batch::Ran;
 use batch::Tally;
+=======
+>>>>>>> 377c0da9dc1f2d08ffbb7f53f8738a682aa3b15a
 use calls::Kind;
 use fresh::Made;
+use listing::Listed;
+use listing::Record;
 use opening::Opened;
 ghost use mathlib.Core.Path.{_≡_};
 ghost use Prim.Native.Nat.{min};
@@ -20,6 +25,7 @@ ghost use Rattle.rules.specs.Calls.{Get, Insert, Remove, Clear, Peek, Contains,
 ghost use Rattle.rules.specs.Public.{wordsNeeded};
 ghost use Rattle.answers.specs.Answers.{gotIs, seenIs, heldIs, insertedIs, goneIs, clearedIs, countedIs};
 ghost use Rattle.calls.specs.Policy.{arcPolicy};
+ghost use Rattle.listing.specs.Outcome.{ListingOutcome};
 ghost use Rattle.calls.specs.Outer.{Outcome, Told, Making, madeIs};
 ghost use Rattle.batch.specs.Outcomes.{ranIs, BatchOutcome};
 
@@ -177,6 +183,7 @@ impl ArcCore {
         }
     }
 
+<<<<<<< HEAD
     // A batch: runs a trace on the area, and answers the operations done, or the refusal. The counts are this batch's, those before a
     // refusal 4 or 5 counted; on refusal 3 they are those handed in.
     pub fn tally(area: &mut [u64], trace: &[u8], lent: Counts) -> Tally
@@ -192,5 +199,12 @@ impl ArcCore {
         let t = Self::tally(area, trace, *counts);
         *counts = t.counts;
         t.ran
+=======
+    // The residents into records, T1 newest to oldest and then T2 likewise; how many, or a refusal.
+    pub fn list(area: &[u64], records: &mut [Record]) -> Listed
+        ensures { λ r. ⌜ ListingOutcome arcPolicy (now (area .entry)) (now (records .entry)) (now (records .exit)) r ⌝ }
+    {
+        listing::list(area, Kind::Arc, records)
+>>>>>>> 377c0da9dc1f2d08ffbb7f53f8738a682aa3b15a
     }
 }
