@@ -8,6 +8,8 @@ pub mod Reading
 pub mod Following
 pub mod Walks
 pub mod Counting
+pub mod Ends
+pub mod Meeting
 pub mod Filling
 pub mod Family
 pub mod Needs

@@ -2,3 +2,4 @@
 pub mod Members
 pub mod Rings
 pub mod Walks
+pub mod Ends

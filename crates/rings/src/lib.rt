@@ -8,6 +8,7 @@ ghost use mathlib.Core.Path.{_≡_};
 ghost use Rattle.cells.specs.Cells.{In};
 ghost use Rattle.rings.specs.Rings.{inserted, detached, fronted, ended, replaced, emptied, filled, CanInsert, CanDetach, CanFront, CanEnd, CanReplace, CanFill};
 ghost use Rattle.rings.specs.Walks.{countOf, ringTest, CanWalk};
+ghost use Rattle.rings.specs.Ends.{joined, ahead, behind, any, CanStep};
 
 // e, which is in no ring, comes before f, a member or a sentinel: before the sentinel is the end.
 pub fn insert(w: &mut [u64], f: usize, e: usize)
@@ -118,13 +119,64 @@ pub fn count(w: &[u64], m: usize, s: usize, most: usize) -> Walk
     Walk::Members(n)
 }
 
-// Whether the ring of s has exactly n members, for any words.
+// Whether b stands after a, by both links.
+pub fn joins(w: &[u64], a: usize, b: usize) -> bool
+    requires { ⌜ In (now w) a × In (now w) b ⌝ }
+    ensures { λ r. ⌜ r ≡ joined (now (w .entry)) a b ⌝ }
+{
+    if cells::next(w, a) == b {
+        cells::prev(w, b) == a
+    } else {
+        false
+    }
+}
+
+// Whether a member of the ring of s stands after a, and whether one stands before b, by both links.
+fn leads(w: &[u64], m: usize, s: usize, a: usize) -> bool
+    requires { ⌜ CanStep (now w) m s a ⌝ }
+    ensures { λ r. ⌜ r ≡ ahead (now (w .entry)) m any a ⌝ }
+{
+    let x = cells::next(w, a);
+    if x < m { cells::prev(w, x) == a } else { false }
+}
+
+fn trails(w: &[u64], m: usize, s: usize, b: usize) -> bool
+    requires { ⌜ CanStep (now w) m s b ⌝ }
+    ensures { λ r. ⌜ r ≡ behind (now (w .entry)) m any b ⌝ }
+{
+    let y = cells::prev(w, b);
+    if y < m { cells::next(w, y) == b } else { false }
+}
+
+// Whether the ring of s has exactly n members, for any words. It is walked from both ends at once, a from the front and b from the end: a step waits for the one
+// before it, and so two walks of half the members take half the time.
 pub fn check(w: &[u64], m: usize, s: usize, n: usize) -> bool
     requires { ⌜ CanWalk (now w) m s ⌝ }
     ensures { λ r. ⌜ r ≡ ringTest (now (w .entry)) m s n ⌝ }
 {
-    match count(w, m, s, n) {
-        Walk::Members(k) => k == n,
-        Walk::Bad => false,
+    let mut left = n;
+    let mut a = s;
+    let mut b = s;
+    while 1 < left {
+        if leads(w, m, s, a) {
+            if trails(w, m, s, b) {
+                a = cells::next(w, a);
+                b = cells::prev(w, b);
+                left = left - 2;
+            } else {
+                return false;
+            }
+        } else {
+            return false;
+        }
+    }
+    if left == 0 {
+        return joins(w, a, b);
+    }
+    if leads(w, m, s, a) {
+        let x = cells::next(w, a);
+        joins(w, x, b)
+    } else {
+        false
     }
 }

@@ -4,6 +4,7 @@ ghost use mathlib.Core.Path.{_≡_};
 ghost use Rattle.cells.specs.Cells.{In, nextOf, prevOf, withPrev, CanLink};
 ghost use Rattle.rings.specs.Rings.{inserted, detached, fronted, ended, replaced, emptied, filled, CanInsert, CanDetach, CanFront, CanEnd, CanReplace, CanFill};
 ghost use Rattle.rings.specs.Walks.{countOf, ringTest, CanWalk};
+ghost use Rattle.rings.specs.Ends.{joined};
 ghost use Rattle.tails.specs.Tails.{tailOf, withTail, Tail};
 use rings::Walk;
 
@@ -101,4 +102,12 @@ pub fn check(w: &[u64], a: usize, m: usize, s: usize, n: usize) -> bool
     ensures { λ r. ⌜ r ≡ ringTest (tailOf a (now (w .entry))) m s n ⌝ }
 {
     rings::check(&w[a..], m, s, n)
+}
+
+// Whether y stands after x, by both links.
+pub fn joins(w: &[u64], a: usize, x: usize, y: usize) -> bool
+    requires { ⌜ Tail (now w) a (In (tailOf a (now w)) x × In (tailOf a (now w)) y) ⌝ }
+    ensures { λ r. ⌜ r ≡ joined (tailOf a (now (w .entry))) x y ⌝ }
+{
+    rings::joins(&w[a..], x, y)
 }
