@@ -200,19 +200,19 @@ module _ (kind c : ℕ) (p : Parts) (t : Bool) (q : t ≡ listsTest c p) where
   unfolding partsTest
   parts-lists e = rw (sym q ∙ e) refl
 
-  module _ (u : Bool) (e : t ≡ true) (y : u ≡ heldTest c p) where
-    pub parts-held : u ≡ false → false ≡ partsTest kind c p
+  module _ (u : Bool) (e : t ≡ true) (y : u ≡ deadTest c p) where
+    pub parts-dead : u ≡ false → false ≡ partsTest kind c p
     unfolding partsTest
-    parts-held f = rw (sym q ∙ e, sym y ∙ f) refl
+    parts-dead f = rw (sym q ∙ e, sym y ∙ f) refl
 
-    module _ (v : Bool) (f : u ≡ true) (z : v ≡ deadTest c p) where
-      pub parts-dead : v ≡ false → false ≡ partsTest kind c p
+    module _ (v : Bool) (f : u ≡ true) (z : v ≡ sumsTest kind c p) where
+      pub parts-sums : v ≡ false → false ≡ partsTest kind c p
       unfolding partsTest
-      parts-dead g = rw (sym q ∙ e, sym y ∙ f, sym z ∙ g) refl
+      parts-sums g = rw (sym q ∙ e, sym y ∙ f, sym z ∙ g) refl
 
-      pub parts-sums : (b : Bool) → v ≡ true → b ≡ sumsTest kind c p → b ≡ partsTest kind c p
+      pub parts-held : (b : Bool) → v ≡ true → b ≡ heldTest c p → b ≡ partsTest kind c p
       unfolding partsTest
-      parts-sums b g x = rw (sym q ∙ e, sym y ∙ f, sym z ∙ g) x
+      parts-held b g x = rw (sym q ∙ e, sym y ∙ f, sym z ∙ g) x
 
 -- ---- all
 module _ (kind : ℕ) (w : List ℕ) where

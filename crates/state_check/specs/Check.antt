@@ -61,7 +61,7 @@ sumsTest kind c p = cond (eqb kind 1) (cond (ltb (c + 1) (rowCount p)) false (le
 
 -- ---- the parts together
 unfoldable pub partsTest : ℕ → ℕ → Parts → Bool
-partsTest kind c p = cond (listsTest c p) (cond (heldTest c p) (cond (deadTest c p) (sumsTest kind c p) false) false) false
+partsTest kind c p = cond (listsTest c p) (cond (deadTest c p) (cond (sumsTest kind c p) (heldTest c p) false) false) false
 
 -- THE TEST: the header, and then the parts
 unfoldable pub stateTest : ℕ → List ℕ → Bool

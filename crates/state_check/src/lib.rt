@@ -234,15 +234,15 @@ fn check_sums(area: &[u64], kind: u64, c: usize) -> bool
     live(area, c) <= 2 * c + 1
 }
 
-// The parts together.
+// The parts together. The lookup comes last: nothing then has to be kept over the loop that takes the longest.
 fn check_parts(area: &[u64], kind: u64, c: usize) -> bool
     requires { ⌜ Fits c (now area) ⌝ }
     ensures { λ r. ⌜ r ≡ partsTest kind c (partsOf c (now (area .entry))) ⌝ }
 {
     if check_lists(area, c) {
-        if check_held(area, c) {
-            if check_dead(area, c) {
-                check_sums(area, kind, c)
+        if check_dead(area, c) {
+            if check_sums(area, kind, c) {
+                check_held(area, c)
             } else {
                 false
             }
