@@ -4,7 +4,7 @@ use mathlib.Core.Bool.{true, false}
 use mathlib.Core.List.{List, [], _∷_}
 use Prim.Native.Nat.{ℕ}
 use Rattle.cells.specs.Cells.{nextOf, prevOf, withNext, withPrev}
-use Rattle.rings.specs.Rings.{membersFrom, inserted, detached, fronted, ended, emptied, appended, filled}
+use Rattle.rings.specs.Rings.{membersFrom, inserted, detached, fronted, ended, emptied, linked, chained, filled}
 use Rattle.rings.specs.Walks.{closing, countOf, ringTest}
 use Rattle.tails.specs.Tails.{tailOf, withTail}
 use Rattle.residents.specs.Residents as R
@@ -16,7 +16,7 @@ pub new : List ℕ
 new = 0 ∷ 0 ∷ 2 ∷ 9 ∷ 9 ∷ 9 ∷ 9 ∷ 9 ∷ 9 ∷ 1 ∷ 4 ∷ 4 ∷ 0 ∷ 2 ∷ 2 ∷ 3 ∷ 3 ∷ 0 ∷ 1 ∷ []
 
 pub new-made : C.made 2 (9 ∷ 9 ∷ 9 ∷ 9 ∷ 9 ∷ 9 ∷ 9 ∷ 9 ∷ 9 ∷ 9 ∷ 9 ∷ 9 ∷ 9 ∷ 9 ∷ 9 ∷ 9 ∷ 9 ∷ 9 ∷ 9 ∷ []) ≡ new
-unfolding new C.made C.freshLinks tailOf withTail filled appended emptied inserted nextOf prevOf withNext withPrev
+unfolding new C.made C.freshLinks tailOf withTail filled chained linked emptied inserted nextOf prevOf withNext withPrev
 new-made = refl
 
 -- frames 10 and 11 at the front of T1: slot 0, then slot 1

@@ -4,13 +4,13 @@ use mathlib.Core.Bool.{Bool, true, false}
 use mathlib.Core.List.{List, [], _∷_}
 use Prim.Native.Nat.{ℕ}
 use Rattle.cells.specs.Cells.{nextOf, prevOf, withNext, withPrev}
-use Rattle.rings.specs.Rings.{membersFrom, membersOf, inserted, detached, fronted, ended, replaced, emptied, appended, filled}
+use Rattle.rings.specs.Rings.{membersFrom, membersOf, inserted, detached, fronted, ended, replaced, emptied, linked, before, chained, filled}
 use Rattle.rings.specs.declared.Walk.the-variants.{Members, Bad}
 use Rattle.rings.specs.Walks.{closing, countOf, ringTest}
 
 -- whatever the words were
 pub two : filled 2 2 (9 ∷ 9 ∷ 9 ∷ 9 ∷ 9 ∷ 9 ∷ []) ≡ 1 ∷ 2 ∷ 2 ∷ 0 ∷ 0 ∷ 1 ∷ []
-unfolding filled appended emptied inserted nextOf prevOf withNext withPrev
+unfolding filled chained linked withNext withPrev
 two = refl
 
 pub two-members : membersOf (1 ∷ 2 ∷ 2 ∷ 0 ∷ 0 ∷ 1 ∷ []) 2 2 ≡ 0 ∷ 1 ∷ []

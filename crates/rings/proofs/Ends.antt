@@ -14,6 +14,7 @@ use Rattle.rings.specs.Members.{Below}
 use Rattle.rings.specs.Rings.{Links, Ring, membersOf}
 use Rattle.rings.specs.Walks.{ringTest, CanWalk}
 use Rattle.rings.specs.Ends.{joined, ahead, behind, between, each, any}
+use Rattle.rings.proofs.Links.{links-snoc}
 use Rattle.rings.proofs.Reading.{ring-members}
 use Rattle.rings.proofs.Walks.{Counted, test-sound, test-complete}
 
@@ -35,10 +36,6 @@ pub record Leads (w : List ℕ) (m : ℕ) (T : ℕ → Bool) (n a b : ℕ) : Typ
   pub size : length cells ≡ n
 
 -- a cell more at the end
-links-snoc : (w : List ℕ) (a : ℕ) (xs : List ℕ) (y b : ℕ) → Links w a xs y → nextOf w y ≡ b → prevOf w b ≡ y → Links w a (xs ++ (y ∷ [])) b
-links-snoc w a [] y b l n p = (l .0, l .1, (n, p))
-links-snoc w a (x ∷ xs) y b l n p = (l .0, l .1, links-snoc w x xs y b (l .2) n p)
-
 below-snoc : (m : ℕ) (xs : List ℕ) (y : ℕ) → Below m xs → y < m → Below m (xs ++ (y ∷ []))
 below-snoc m [] y b h = (h, tt)
 below-snoc m (x ∷ xs) y b h = (b .0, below-snoc m xs y (b .1) h)

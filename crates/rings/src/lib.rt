@@ -6,7 +6,7 @@
 // for one ring and for another beside it in proofs/Ring.antt and Moves.antt, for a family of rings in Family.antt.
 ghost use mathlib.Core.Path.{_≡_};
 ghost use Rattle.cells.specs.Cells.{In};
-ghost use Rattle.rings.specs.Rings.{inserted, detached, fronted, ended, replaced, emptied, filled, CanInsert, CanDetach, CanFront, CanEnd, CanReplace, CanFill};
+ghost use Rattle.rings.specs.Rings.{inserted, detached, fronted, ended, replaced, emptied, linked, filled, CanInsert, CanDetach, CanFront, CanEnd, CanReplace, CanFill};
 ghost use Rattle.rings.specs.Walks.{countOf, ringTest, CanWalk};
 ghost use Rattle.rings.specs.Ends.{joined, ahead, behind, any, CanStep};
 
@@ -71,17 +71,28 @@ pub fn empty(w: &mut [u64], s: usize)
     cells::set_prev(w, s, s);
 }
 
-// The ring of s has all members, in rising order. Any words may lie there before.
+// b now stands after a.
+fn link(w: &mut [u64], a: usize, b: usize)
+    requires { ⌜ In (now w) a × In (now w) b ⌝ }
+    ensures { λ _. ⌜ now (w .exit) ≡ linked a b (now (w .entry)) ⌝ }
+{
+    cells::set_next(w, a, b);
+    cells::set_prev(w, b, a);
+}
+
+// The ring of s has all members, in rising order. Any words may lie there before. p is the cell before i.
 pub fn fill(w: &mut [u64], m: usize, s: usize)
     requires { ⌜ CanFill (now w) m s ⌝ }
     ensures { λ _. ⌜ now (w .exit) ≡ filled s m (now (w .entry)) ⌝ }
 {
-    empty(w, s);
+    let mut p = s;
     let mut i = 0;
     while i < m {
-        insert(w, s, i);
+        link(w, p, i);
+        p = i;
         i = i + 1;
     }
+    link(w, p, s);
 }
 
 // What a walk finds: so many members, or no ring, or more members than allowed.
