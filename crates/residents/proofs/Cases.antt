@@ -5,7 +5,7 @@ use mathlib.Core.List.{List, [], _∷_}
 use Prim.Native.Nat.{ℕ}
 use Rattle.cells.specs.Cells.{nextOf, prevOf, withNext, withPrev}
 use Rattle.rings.specs.Rings.{membersFrom, inserted, detached, fronted, ended, emptied, linked, chained, filled}
-use Rattle.rings.specs.Walks.{closing, countOf, ringTest}
+use Rattle.rings.specs.Walks.{joined, ahead, behind, ringTest}
 use Rattle.tails.specs.Tails.{tailOf, withTail}
 use Rattle.residents.specs.Residents as R
 use Rattle.residents.specs.Changes as C
@@ -42,9 +42,9 @@ freed-top = refl
 
 -- the test, and the test with a list number that is wrong
 pub passes : T.residentsTest two 2 ≡ true
-unfolding two T.residentsTest T.countsTest T.sideTest T.ringAt T.slotTest R.countOf R.frameOf R.listOf R.bitOf R.listsOf ringTest countOf closing membersFrom tailOf nextOf prevOf
+unfolding two T.residentsTest T.countsTest T.sideTest T.ringAt T.slotTest R.countOf R.frameOf R.listOf R.bitOf R.listsOf ringTest joined ahead behind membersFrom tailOf nextOf prevOf
 passes = refl
 
 pub fails : T.residentsTest (C.withList 2 0 1 two) 2 ≡ false
-unfolding two C.withList T.residentsTest T.countsTest T.sideTest T.ringAt T.slotTest R.countOf R.frameOf R.listOf R.bitOf R.listsOf ringTest countOf closing membersFrom tailOf nextOf prevOf
+unfolding two C.withList T.residentsTest T.countsTest T.sideTest T.ringAt T.slotTest R.countOf R.frameOf R.listOf R.bitOf R.listsOf ringTest joined ahead behind membersFrom tailOf nextOf prevOf
 fails = refl

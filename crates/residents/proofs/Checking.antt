@@ -11,9 +11,8 @@ use borrow.Author.Tests.{eq-eqb, ne-eqb, lt-ltb, le-ltb}
 use Rattle.cells.specs.Cells.{In, nextOf, prevOf}
 use Rattle.cells.proofs.Laws.{in-below}
 use Rattle.rings.specs.Rings.{membersOf}
-use Rattle.rings.specs.Walks.{ringTest, CanWalk}
-use Rattle.rings.specs.Ends.{joined, ahead, behind, each}
-use Rattle.rings.proofs.Ends.{ends-are}
+use Rattle.rings.specs.Walks.{joined, ahead, behind, each, ringTest, CanWalk}
+use Rattle.rings.proofs.Walks.{ends-are}
 use Rattle.rings.proofs.Meeting.{Met, met-front, met-end, met-turn, met-none, met-astray, met-one, met-last}
 use Rattle.tails.specs.Tails.{tailOf, Tail}
 use Rattle.residents.specs.Residents.{linksOf, countOf, frameOf, listOf, bitOf, listsOf, Room}

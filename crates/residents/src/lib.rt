@@ -10,7 +10,7 @@ ghost use Prim.Native.Nat.{_+_, _*_, _<_};
 ghost use Rattle.tails.specs.Tails.{withTail};
 ghost use Rattle.cells.specs.Cells.{nextOf, prevOf};
 ghost use Rattle.rings.specs.Rings.{CanFront, CanEnd};
-ghost use Rattle.rings.specs.Ends.{ahead, behind};
+ghost use Rattle.rings.specs.Walks.{ahead, behind};
 ghost use Rattle.residents.specs.Residents.{linksOf, countOf, frameOf, listOf, bitOf, Room};
 ghost use Rattle.residents.specs.Changes.{withFrame, withList, withBit, withSlot, recounted, shiftedFront, shiftedEnd, CanRecount, CanShift, promoted, sentBack, freed, addedFront, addedEnd, Added, freshLinks, made, IsResident, CanAdd, HasSlot, HasList};
 ghost use Rattle.residents.specs.Tests.{countsTest, ringAt, slotTest, sideTest, residentsTest, CanStep};

@@ -7,8 +7,6 @@ pub mod Moves
 pub mod Reading
 pub mod Following
 pub mod Walks
-pub mod Counting
-pub mod Ends
 pub mod Meeting
 pub mod Filling
 pub mod Family

@@ -9,10 +9,9 @@ use lib.Dec.{eqb, ltb}
 use borrow.Author.Needs.{needs}
 use borrow.Author.Tests.{eq-eqb, ne-eqb, lt-ltb, le-ltb}
 use Rattle.cells.specs.Cells.{In, nextOf, prevOf}
-use Rattle.rings.specs.Walks.{ringTest, CanWalk}
-use Rattle.rings.specs.Ends.{joined, ahead, behind, between, any, CanStep}
-use Rattle.rings.proofs.Counting.{walk-in}
-use Rattle.rings.proofs.Ends.{ahead-sound, behind-sound, ends-ring}
+use Rattle.cells.proofs.Laws.{in-below}
+use Rattle.rings.specs.Walks.{joined, ahead, behind, between, any, ringTest, CanWalk, CanStep}
+use Rattle.rings.proofs.Walks.{ahead-sound, behind-sound}
 
 -- two cells
 module _ (w : List ℕ) (a b x : ℕ) (q : x ≡ nextOf w a) where
@@ -28,6 +27,9 @@ module _ (w : List ℕ) (a b x : ℕ) (q : x ≡ nextOf w a) where
 same : (t : Bool) → t ≡ cond t true false
 same true = refl
 same false = refl
+
+walk-in : (w : List ℕ) (m s x : ℕ) → CanWalk w m s → x < m → In w x
+walk-in w m s x can l = let h : m ≤ s = can .high in in-below w s x (can .root) (omega arith)
 
 pub step-in : (w : List ℕ) (m s a x : ℕ) → CanStep w m s a → x < m → In w x
 step-in w m s a x can h = walk-in w m s x (can .walk) h
@@ -100,6 +102,7 @@ module _ (w : List ℕ) (m : ℕ) (T : ℕ → Bool) (whole : Bool) (left a b : 
 
 -- the whole test of a ring
 pub ring-start : (w : List ℕ) (m s n : ℕ) → CanWalk w m s → Met w m any (ringTest w m s n) n s s
-ring-start w m s n can = record { same = ends-ring w m s n can; front = can .root; end = can .root }
+unfolding ringTest
+ring-start w m s n can = record { same = refl; front = can .root; end = can .root }
 
 pub ruleset laws = (joins-no, joins-back, step-in, leads-out, leads-back, trails-out, trails-on, met-front, met-end, met-turn, met-none, met-astray, met-one, met-last, ring-start, needs)

@@ -2,4 +2,3 @@
 pub mod Members
 pub mod Rings
 pub mod Walks
-pub mod Ends

@@ -7,8 +7,7 @@
 ghost use mathlib.Core.Path.{_≡_};
 ghost use Rattle.cells.specs.Cells.{In};
 ghost use Rattle.rings.specs.Rings.{inserted, detached, fronted, ended, replaced, emptied, linked, filled, CanInsert, CanDetach, CanFront, CanEnd, CanReplace, CanFill};
-ghost use Rattle.rings.specs.Walks.{countOf, ringTest, CanWalk};
-ghost use Rattle.rings.specs.Ends.{joined, ahead, behind, any, CanStep};
+ghost use Rattle.rings.specs.Walks.{joined, ahead, behind, any, ringTest, CanWalk, CanStep};
 
 // e, which is in no ring, comes before f, a member or a sentinel: before the sentinel is the end.
 pub fn insert(w: &mut [u64], f: usize, e: usize)
@@ -95,41 +94,6 @@ pub fn fill(w: &mut [u64], m: usize, s: usize)
     link(w, p, s);
 }
 
-// What a walk finds: so many members, or no ring, or more members than allowed.
-pub enum Walk {
-    Members(usize),
-    Bad,
-}
-
-// How many members the ring of s has, at most `most`, for any words. Each link is held against the link back, so that no cell is
-// passed twice: the walk is linear in m whatever the words are.
-pub fn count(w: &[u64], m: usize, s: usize, most: usize) -> Walk
-    requires { ⌜ CanWalk (now w) m s ⌝ }
-    ensures { λ r. ⌜ r ≡ countOf (now (w .entry)) m s most ⌝ }
-{
-    let mut n = 0;
-    let mut cur = s;
-    let mut x = cells::next(w, s);
-    while x < m {
-        if n == most {
-            return Walk::Bad;
-        }
-        if cells::prev(w, x) != cur {
-            return Walk::Bad;
-        }
-        n = n + 1;
-        cur = x;
-        x = cells::next(w, x);
-    }
-    if x != s {
-        return Walk::Bad;
-    }
-    if cells::prev(w, s) != cur {
-        return Walk::Bad;
-    }
-    Walk::Members(n)
-}
-
 // Whether b stands after a, by both links.
 pub fn joins(w: &[u64], a: usize, b: usize) -> bool
     requires { ⌜ In (now w) a × In (now w) b ⌝ }
@@ -160,7 +124,7 @@ fn trails(w: &[u64], m: usize, s: usize, b: usize) -> bool
 }
 
 // Whether the ring of s has exactly n members, for any words. It is walked from both ends at once, a from the front and b from the end: a step waits for the one
-// before it, and so two walks of half the members take half the time.
+// before it, and so two walks of half the members take half the time. Each link is held against the link back, so that no cell is passed twice.
 pub fn check(w: &[u64], m: usize, s: usize, n: usize) -> bool
     requires { ⌜ CanWalk (now w) m s ⌝ }
     ensures { λ r. ⌜ r ≡ ringTest (now (w .entry)) m s n ⌝ }

@@ -6,7 +6,7 @@
 ghost use mathlib.Core.Path.{_≡_};
 ghost use Prim.Native.Nat.{_+_, _*_, _<_};
 ghost use Rattle.rings.specs.Rings.{membersOf};
-ghost use Rattle.rings.specs.Ends.{ahead, behind};
+ghost use Rattle.rings.specs.Walks.{ahead, behind};
 ghost use Rattle.tails.specs.Tails.{tailOf};
 ghost use Rattle.residents.specs.Residents.{countOf as residentCount, listsOf, IsResidents};
 ghost use Rattle.residents.specs.Tests.{residentsTest};

@@ -3,10 +3,8 @@
 ghost use mathlib.Core.Path.{_≡_};
 ghost use Rattle.cells.specs.Cells.{In, nextOf, prevOf, withPrev, CanLink};
 ghost use Rattle.rings.specs.Rings.{inserted, detached, fronted, ended, replaced, emptied, filled, CanInsert, CanDetach, CanFront, CanEnd, CanReplace, CanFill};
-ghost use Rattle.rings.specs.Walks.{countOf, ringTest, CanWalk};
-ghost use Rattle.rings.specs.Ends.{joined};
+ghost use Rattle.rings.specs.Walks.{joined, ringTest, CanWalk};
 ghost use Rattle.tails.specs.Tails.{tailOf, withTail, Tail};
-use rings::Walk;
 
 // The cell after e.
 pub fn next(w: &[u64], a: usize, e: usize) -> usize
@@ -86,14 +84,6 @@ pub fn fill(w: &mut [u64], a: usize, m: usize, s: usize)
     ensures { λ _. ⌜ now (w .exit) ≡ withTail a (filled s m (tailOf a (now (w .entry)))) (now (w .entry)) ⌝ }
 {
     rings::fill(&mut w[a..], m, s);
-}
-
-// How many members the ring of s has, at most `most`, for any words.
-pub fn count(w: &[u64], a: usize, m: usize, s: usize, most: usize) -> Walk
-    requires { ⌜ Tail (now w) a (CanWalk (tailOf a (now w)) m s) ⌝ }
-    ensures { λ r. ⌜ r ≡ countOf (tailOf a (now (w .entry))) m s most ⌝ }
-{
-    rings::count(&w[a..], m, s, most)
 }
 
 // Whether the ring of s has exactly n members, for any words.

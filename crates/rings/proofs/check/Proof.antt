@@ -1,6 +1,5 @@
 -- `rings::check` meets its contract. The loop's invariant: the test of what lies between a and b is the whole test. The measure is how many members are to come. Assumes nothing.
-use Rattle.rings.specs.Walks.{ringTest}
-use Rattle.rings.specs.Ends.{any}
+use Rattle.rings.specs.Walks.{any, ringTest}
 use Rattle.rings.proofs.Meeting.{Met, laws}
 use Rattle.rings.proofs.check.Statement.{statement}
 use Rattle.rings.proofs.check.Tie as tie
