@@ -4,7 +4,7 @@
 //! printed, and the status is 1.
 use compare::agree::{replay, states};
 use compare::calls::{ARC, CAR};
-use compare::cases::{damaged, fitting, heads, input, long_run, short_run, KINDS, PATTERNS};
+use compare::cases::{damaged, edges, fitting, heads, input, long_run, short_run, KINDS, PATTERNS, STYLES};
 use compare::program::{head, Case, DIGEST, REPLAY_MOST, STATES_MOST, WHOLE};
 use compare::random::Random;
 use compare::rust::Side;
@@ -188,8 +188,8 @@ fn batch(seed: u64) -> Vec<Case> {
         let c = capacity(&mut random, size);
         let pattern = random.choice(&PATTERNS);
         let count = 300 + random.below(4 * c as u64 + 1);
-        let paired = random.below(2) == 0;
-        let operations = long_run(&mut random, pattern, c, count as usize, paired);
+        let style = random.choice(&STYLES);
+        let operations = long_run(&mut random, pattern, c, count as usize, style);
         cases.extend(KINDS.map(|kind| Case { mode: DIGEST, input: fitting(kind, c, &operations) }));
     }
     cases
@@ -221,13 +221,12 @@ fn main() {
     let (by_replay, by_states) = (Program::new("replay", "REPLAY"), Program::new("states", "STATES"));
     println!("live: {seconds} seconds, seed {seed}");
     let (began, mut figures, mut batches) = (Instant::now(), Figures::default(), 0);
-    for most in [REPLAY_MOST, STATES_MOST] {
-        for bytes in heads(most) {
-            run_replay(&by_replay, &bytes, &mut figures);
-        }
+    let fixed = |most| heads(most).into_iter().chain(edges());
+    for bytes in fixed(REPLAY_MOST) {
+        run_replay(&by_replay, &bytes, &mut figures);
     }
-    let all_heads: Vec<Case> = heads(STATES_MOST).into_iter().map(|input| Case { mode: WHOLE, input }).collect();
-    run_states(&by_states, &all_heads, &mut figures);
+    let fixed: Vec<Case> = fixed(STATES_MOST).map(|input| Case { mode: WHOLE, input }).collect();
+    run_states(&by_states, &fixed, &mut figures);
     if seconds >= TOURS_FROM {
         run_tours(&by_states, &mut figures);
     }
