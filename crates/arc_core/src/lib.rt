@@ -7,12 +7,9 @@ use answers::Got;
 use answers::Held;
 use answers::Inserted;
 use answers::Seen;
-<<<<<<< HEAD
 use batch::Counts;
 use batch::Ran;
 use batch::Tally;
-=======
->>>>>>> 377c0da9dc1f2d08ffbb7f53f8738a682aa3b15a
 use calls::Kind;
 use fresh::Made;
 use listing::Listed;
@@ -183,7 +180,6 @@ impl ArcCore {
         }
     }
 
-<<<<<<< HEAD
     // A batch: runs a trace on the area, and answers the operations done, or the refusal. The counts are this batch's, those before a
     // refusal 4 or 5 counted; on refusal 3 they are those handed in.
     pub fn tally(area: &mut [u64], trace: &[u8], lent: Counts) -> Tally
@@ -199,12 +195,12 @@ impl ArcCore {
         let t = Self::tally(area, trace, *counts);
         *counts = t.counts;
         t.ran
-=======
+    }
+
     // The residents into records, T1 newest to oldest and then T2 likewise; how many, or a refusal.
     pub fn list(area: &[u64], records: &mut [Record]) -> Listed
         ensures { λ r. ⌜ ListingOutcome arcPolicy (now (area .entry)) (now (records .entry)) (now (records .exit)) r ⌝ }
     {
         listing::list(area, Kind::Arc, records)
->>>>>>> 377c0da9dc1f2d08ffbb7f53f8738a682aa3b15a
     }
 }
