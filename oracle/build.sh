@@ -1,9 +1,9 @@
 # Sourced by the scripts here. Goes to the repository's root, and defines
 #   root          the repository
-#   build_oracle  builds the oracle's programs, optimised and with no network, into target/oracle
+#   build_oracle  builds the comparing programs, with no network, into target/oracle
 #   made          the folder that they are in
 root=$(cd "$(dirname "${BASH_SOURCE[0]}")/.." && pwd -P)
-made=$root/target/oracle/release
+made=$root/target/oracle/checks
 cd "$root" || exit 2
 
 build_oracle() {
@@ -13,7 +13,7 @@ build_oracle() {
     }
     local log=$root/target/oracle/build.log
     mkdir -p "$root/target/oracle"
-    CARGO_TARGET_DIR=$root/target/oracle cargo build --release --offline --locked --manifest-path oracle/Cargo.toml >"$log" 2>&1 || {
+    CARGO_TARGET_DIR=$root/target/oracle cargo build --profile checks --package compare --offline --locked --manifest-path oracle/Cargo.toml >"$log" 2>&1 || {
         cat "$log" >&2
         return 1
     }

@@ -1,5 +1,6 @@
 //! Inputs: all short sequences of calls, long runs of several access patterns, and damaged bytes.
-use crate::calls::{ARC, CAR};
+use crate::calls::{Cache, ARC, CAR};
+use crate::model::{Model, Step};
 use crate::program::LONGEST;
 use crate::random::{Random, Zipf};
 use crate::trace::{write, write_number, Operation};
@@ -156,6 +157,33 @@ pub fn long_run(random: &mut Random, pattern: Pattern, c: usize, count: usize, s
         });
     }
     operations
+}
+
+/// A run of `count` calls that looks at the list model's state: once the cache is full it mostly inserts ghosts, of B1 for a while and then of B2, so that the target
+/// goes from one end to the other and both lists are evicted from. New pages come in strides.
+pub fn guided_run(random: &mut Random, kind: u8, c: usize, count: usize) -> Vec<Operation> {
+    let mut model = Model::new(kind, c, Step::One);
+    let stride = random.choice(&[1, 64, 0x9e37_79b9_7f4a_7c15]);
+    (0..count)
+        .map(|i| {
+            let state = model.state();
+            let residents: Vec<u64> = state.residents().map(|r| r.page).collect();
+            let ghosts = if i.saturating_sub(2 * c) / (3 * c + 20) % 2 == 0 { &state.b1 } else { &state.b2 };
+            let dice = random.below(20);
+            let operation = if !residents.is_empty() && (dice < 4 || (residents.len() < c && dice < 8)) {
+                Operation::Get(random.choice(&residents))
+            } else if !residents.is_empty() && dice == 19 {
+                let x = random.choice(&residents);
+                random.choice(&[Operation::Remove(x), Operation::Peek(x), Operation::Insert(x, i as u32)])
+            } else if !ghosts.is_empty() && dice < 14 {
+                Operation::Insert(random.choice(ghosts), i as u32)
+            } else {
+                Operation::Insert((i as u64).wrapping_mul(stride), i as u32)
+            };
+            model.call(operation);
+            operation
+        })
+        .collect()
 }
 
 /// A few random calls on few pages.

@@ -4,7 +4,7 @@
 //! printed, and the status is 1.
 use compare::agree::{replay, states};
 use compare::calls::{ARC, CAR};
-use compare::cases::{damaged, edges, fitting, heads, input, long_run, short_run, KINDS, PATTERNS, STYLES};
+use compare::cases::{damaged, edges, fitting, guided_run, heads, input, long_run, short_run, KINDS, PATTERNS, STYLES};
 use compare::program::{head, Case, DIGEST, REPLAY_MOST, STATES_MOST, WHOLE};
 use compare::random::Random;
 use compare::rust::Side;
@@ -224,8 +224,10 @@ fn batch(seed: u64) -> Vec<Case> {
         let input = if i % 3 == 0 { damaged(&mut random, &whole) } else { whole };
         cases.push(Case { mode: WHOLE, input });
     }
-    for size in 1..6 {
+    for size in 0..6 {
         let c = capacity(&mut random, size);
+        let count = 100 + 8 * c;
+        cases.extend(KINDS.map(|kind| Case { mode: DIGEST, input: fitting(kind, c, &guided_run(&mut random, kind, c, count)) }));
         let pattern = random.choice(&PATTERNS);
         let count = 300 + random.below(4 * c as u64 + 1);
         let style = random.choice(&STYLES);

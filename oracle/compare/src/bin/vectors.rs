@@ -1,7 +1,7 @@
 //! vectors DIR: writes the stored cases, DIR/stdin, and what the excerpts answer, DIR/stdout. Every call is compared with the list model on the way. Seeds are fixed.
 use compare::agree::states;
 use compare::calls::{ARC, CAR};
-use compare::cases::{all_short, damaged, edges, fitting, heads, input, long_run, short_run, Calls, Pattern, Style, KINDS, PATTERNS, STYLES};
+use compare::cases::{all_short, damaged, edges, fitting, guided_run, heads, input, long_run, short_run, Calls, Pattern, Style, KINDS, PATTERNS, STYLES};
 use compare::program::{Case, DIGEST, STATES_MOST, WHOLE};
 use compare::random::Random;
 use compare::rust::Side;
@@ -72,10 +72,13 @@ fn long_cases(cases: &mut Vec<Case>) {
     add(Pattern::Shifting, 256, 800, Style::Asked);
     add(Pattern::Stride64, 257, 1600, Style::Once);
     add(Pattern::Loop, 700, 1400, Style::Twice);
-    add(Pattern::Tight, 1000, 1500, Style::Once);
     add(Pattern::Huge, 1023, 2500, Style::Once);
-    add(Pattern::Uniform, STATES_MOST, 3000, Style::Once);
-    add(Pattern::Shifting, 600, 2500, Style::Once);
+    add(Pattern::Uniform, STATES_MOST, 2600, Style::Once);
+    add(Pattern::Shifting, 600, 1800, Style::Once);
+    for (c, count) in [(5, 300), (40, 600), (300, 2500)] {
+        seed += 1;
+        cases.extend(KINDS.map(|kind| Case { mode: DIGEST, input: fitting(kind, c, &guided_run(&mut Random::new(seed), kind, c, count)) }));
+    }
 }
 
 /// Every call from every state that calls reach, at the smallest capacities.
