@@ -47,10 +47,10 @@ keep_module() { # CRATE OUT
 #!/bin/bash
 folder=$(dirname "$(dirname "$0")")
 for word in "$@"; do case $word in *.bc) cp "$word" "$folder/kept/module.bc" ;; esac; done
-exec "$folder/real" "$@"
+exec "$folder/real-clang" "$@"
 CLANG
     chmod +x "$folder/bin/clang"
-    ln -s "$tools/bin/clang" "$folder/real"
+    ln -s "$tools/bin/clang" "$folder/real-clang" # it goes by the name that it is called by
     for dep in $(sed 's/#.*//' "$root/crates.txt" | awk -F: -v n="$name" '$1 == n { print $2 }'); do
         if [ -d "$root/crates/$dep" ]; then words+=(--extern "$dep=$root/target/rlib/$dep.rlib"); else words+=(--extern "$dep=$own/rlib/$dep.rlib"); fi
     done
