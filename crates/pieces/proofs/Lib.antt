@@ -1,0 +1,2 @@
+-- The laws of pieces. Assumes nothing.
+pub mod Laws

@@ -1,0 +1,2 @@
+-- The definitions that the contracts of `pieces` cite. Assumes nothing.
+pub mod Pieces
