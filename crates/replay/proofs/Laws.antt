@@ -8,10 +8,11 @@ use lib.ListN.{length, take}
 use lib.Seq.{length-take-le}
 use borrow.Author.Needs.{needs}
 use Rattle.lines.specs.Lines.{lineRoom}
+use Rattle.pieces.specs.Pieces.{Within, Kept}
 use Rattle.replaying.specs.declared.Replay.{Replay}
 use Rattle.replaying.specs.declared.Replay.the-variants.{Start}
 use Rattle.replaying.specs.Pending.{areaWords, Ready}
-use Rattle.replaying.specs.Feeding.{Feeds, Wrote, Keeps}
+use Rattle.replaying.specs.Feeding.{Feeds, Wrote}
 use Rattle.replay.specs.declared.Standing.{Standing}
 use Rattle.replay.specs.Standing.{Stands, Holds}
 
@@ -31,14 +32,14 @@ asks-ready s area bytes out i = i .ready
 pub written-there : (n : ℕ) (before after : List ℕ) → Wrote n before after → n ≤ length after
 written-there n before after w = w .there
 
-pub keeps-asks : (r s : Replay) (w v b t : List ℕ) (last : Bool) (n used : ℕ) → Feeds r w (take n b) last s v used t → n ≤ length b → (used ≤ n) × (n ≤ length b)
-keeps-asks r s w v b t last n used f h = (omega (arith, f .inside, length-take-le n b h), h)
+pub keeps-asks : (r s : Replay) (w v b t : List ℕ) (last : Bool) (n used : ℕ) → Feeds r w (take n b) last s v used t → n ≤ length b → Within b used n
+keeps-asks r s w v b t last n used f h = record { order = omega (arith, f .inside, length-take-le n b h); inside = h }
 
 pub stays-ready : (r s : Replay) (w v b t : List ℕ) (last : Bool) (used : ℕ) → Feeds r w b last s v used t → Ready s v
 stays-ready r s w v b t last used f = f .ready
 
-pub left-there : (before after : List ℕ) (used n left : ℕ) → Keeps before after used n left → n ≤ length before → left ≤ length after
-left-there before after used n left k h = omega (arith, k .count, k .size)
+pub left-there : (before after : List ℕ) (used n left : ℕ) → Kept before after used n left → n ≤ length before → length after ≡ length before → left ≤ length after
+left-there before after used n left k h e = omega (arith, k .count)
 
 pub stays-room : (n : ℕ) (before after : List ℕ) → Wrote n before after → lineRoom ≤ length before → lineRoom ≤ length after
 stays-room n before after w h = omega (arith, w .size)

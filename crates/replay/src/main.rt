@@ -59,7 +59,7 @@ fn turn(s: Standing, area: &mut [u64], bytes: &mut [u8], out: &mut [u8]) -> Stan
     let fed = replaying::feed(replay, area, &bytes[..n], last, out);
     let more = write(fed, out);
     let used = fed.used;
-    let left = replaying::keep(bytes, used, n);
+    let left = pieces::keep(bytes, used, n);
     let after = fed.replay;
     Standing {
         replay: after,

@@ -2,7 +2,6 @@
 pub mod Batches
 pub mod Beginning
 pub mod Headers
-pub mod Keeping
 pub mod Pieces
 pub mod Running
 pub mod Whole

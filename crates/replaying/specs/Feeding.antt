@@ -2,8 +2,8 @@
 use mathlib.Core.Path.{_≡_}
 use mathlib.Core.Bool.{Bool, true, cond}
 use mathlib.Core.List.{List, [], _∷_, _++_}
-use Prim.Native.Nat.{ℕ, _+_, _-_, _^_, _<_, _≤_}
-use lib.ListN.{length, take, drop}
+use Prim.Native.Nat.{ℕ, _+_, _^_, _<_, _≤_}
+use lib.ListN.{length, drop}
 use Rattle.replaying.specs.declared.Replay.{Replay}
 use Rattle.replaying.specs.declared.Replay.the-variants.{Ended}
 use Rattle.replaying.specs.Pending.{pending, Ready, offsetOf}
@@ -28,12 +28,6 @@ pub record Feeds (r : Replay) (w bytes : List ℕ) (last : Bool) (s : Replay) (v
 -- what was written is there, in a buffer as long as it was
 pub record Wrote (written : ℕ) (before after : List ℕ) : Type 0 where
   pub there : written ≤ length after
-  pub size : length after ≡ length before
-
--- the bytes from `from` up to `to` of a buffer stand at its start now
-pub record Keeps (before after : List ℕ) (from to r : ℕ) : Type 0 where
-  pub count : r ≡ to - from
-  pub front : take r after ≡ drop from (take to before)
   pub size : length after ≡ length before
 
 -- one feed of a run: the piece that was read behind the bytes that were kept, whether it is the last, and what the feed made of them

@@ -11,7 +11,7 @@ ghost use Rattle.numbers.specs.Reading.{frameOf};
 ghost use Rattle.lines.specs.Lines.{lineRoom};
 ghost use Rattle.replaying.specs.Pending.{areaWords, Ready};
 ghost use Rattle.replaying.specs.Header.{sized, headerOf, Sizes, Fresh};
-ghost use Rattle.replaying.specs.Feeding.{needed, Feeds, Wrote, Keeps};
+ghost use Rattle.replaying.specs.Feeding.{needed, Feeds, Wrote};
 ghost use Rattle.replaying.specs.Asked.{Begins, Goes, Runs};
 
 // Where a replay stands: nothing was read; operations are run on a cache of a kind and of a capacity, of which `done` are done and the
@@ -276,20 +276,6 @@ pub fn feed(r: Replay, area: &mut [u64], bytes: &[u8], last: bool, out: &mut [u8
             written: 0,
         },
     }
-}
-
-// Moves the bytes from `from` up to `to` to the start of the buffer, where they wait for more of the input, and answers how many they are.
-pub fn keep(bytes: &mut [u8], from: usize, to: usize) -> usize
-    requires { ⌜ (from ≤ to) × (to ≤ length (now bytes)) ⌝ }
-    ensures { λ r. ⌜ Keeps (now (bytes .entry)) (now (bytes .exit)) from to r ⌝ }
-{
-    let n = to - from;
-    let mut i: usize = 0;
-    while i < n {
-        bytes[i] = bytes[from + i];
-        i += 1;
-    }
-    n
 }
 
 // The words of an area for the program's largest cache: 24 * 256 + 64.
