@@ -93,8 +93,9 @@ def good(words, kind):
 
 # ---- writing
 
-def write(kind, state, junk=lambda: 0, past=0):
-    """A writing of a state, with what `junk` gives in the words that LAYOUT.md leaves open, and some words past the need."""
+def write(kind, state, junk=lambda: 0, past=0, order=lambda c: list(range(c))):
+    """A writing of a state, with what `junk` gives in the words that LAYOUT.md leaves open, and some words past the need. The cells of a ghost list are
+    taken in the order that `order` gives."""
     c = state['c']
     at = starts(c)
     words = [junk() for _ in range(at['end'] + past)]
@@ -112,15 +113,19 @@ def write(kind, state, junk=lambda: 0, past=0):
     link(words, r + 3 + 3 * c, c + 2, state['free'])
     for i, name in enumerate(('b1', 'b2')):
         ghosts = state[name]
+        cells = order(c)
         words[at[name]] = len(ghosts)
-        link(words, at[name] + 1, c, list(range(len(ghosts))))
-        link(words, at[name] + 1, c + 1, list(range(len(ghosts), c)))
-        for g, page in enumerate(ghosts):
+        link(words, at[name] + 1, c, cells[:len(ghosts)])
+        link(words, at[name] + 1, c + 1, cells[len(ghosts):])
+        for g, page in zip(cells, ghosts):
             pages[(i + 1) * c + g] = page
     for x in range(m):
         words[links + 2 * x + 1] = x
+    held = [[] for _ in range(buckets)]
+    for x in sorted(pages, key=pages.get):
+        held[pages[x] % buckets].append(x)
     for b in range(buckets):
-        link(words, links, m + b, sorted((x for x in pages if pages[x] % buckets == b), key=pages.get))
+        link(words, links, m + b, held[b])
     for x, page in pages.items():
         words[k + x] = page
     return words

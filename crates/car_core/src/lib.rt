@@ -12,6 +12,8 @@ use batch::Ran;
 use batch::Tally;
 use calls::Kind;
 use fresh::Made;
+use listing::Listed;
+use listing::Record;
 use opening::Opened;
 ghost use mathlib.Core.Path.{_≡_};
 ghost use Prim.Native.Nat.{min};
@@ -20,6 +22,7 @@ ghost use Rattle.rules.specs.Calls.{Get, Insert, Remove, Clear, Peek, Contains,
 ghost use Rattle.rules.specs.Public.{wordsNeeded};
 ghost use Rattle.answers.specs.Answers.{gotIs, seenIs, heldIs, insertedIs, goneIs, clearedIs, countedIs};
 ghost use Rattle.calls.specs.Policy.{carPolicy};
+ghost use Rattle.listing.specs.Outcome.{ListingOutcome};
 ghost use Rattle.calls.specs.Outer.{Outcome, Told, Making, madeIs};
 ghost use Rattle.batch.specs.Outcomes.{ranIs, BatchOutcome};
 
@@ -192,5 +195,12 @@ impl CarCore {
         let t = Self::tally(area, trace, *counts);
         *counts = t.counts;
         t.ran
+    }
+
+    // The residents into records, by rising slot; how many, or a refusal.
+    pub fn list(area: &[u64], records: &mut [Record]) -> Listed
+        ensures { λ r. ⌜ ListingOutcome carPolicy (now (area .entry)) (now (records .entry)) (now (records .exit)) r ⌝ }
+    {
+        listing::list(area, Kind::Car, records)
     }
 }

@@ -4,8 +4,8 @@ use mathlib.Core.Bool.{true, false}
 use mathlib.Core.List.{List, [], _∷_}
 use Prim.Native.Nat.{ℕ}
 use Rattle.cells.specs.Cells.{nextOf, prevOf, withNext, withPrev}
-use Rattle.rings.specs.Rings.{membersFrom, inserted, detached, fronted, emptied, appended, filled}
-use Rattle.rings.specs.Walks.{closing, countOf, ringTest}
+use Rattle.rings.specs.Rings.{membersFrom, inserted, detached, fronted, emptied, linked, chained, filled}
+use Rattle.rings.specs.Walks.{joined, ahead, behind, ringTest}
 use Rattle.tails.specs.Tails.{tailOf, withTail}
 use Rattle.ghosts.specs.Ghosts as G
 
@@ -14,7 +14,7 @@ pub new : List ℕ
 new = 0 ∷ 1 ∷ 3 ∷ 3 ∷ 0 ∷ 2 ∷ 2 ∷ 0 ∷ 1 ∷ []
 
 pub new-made : G.made 2 (9 ∷ 9 ∷ 9 ∷ 9 ∷ 9 ∷ 9 ∷ 9 ∷ 9 ∷ 9 ∷ []) ≡ new
-unfolding new G.made G.ghostWords tailOf withTail filled appended emptied inserted nextOf prevOf withNext withPrev
+unfolding new G.made G.ghostWords tailOf withTail filled chained linked emptied inserted nextOf prevOf withNext withPrev
 new-made = refl
 
 -- two pages recorded: cell 0, then cell 1, which is the newest
@@ -45,9 +45,9 @@ forgotten-spare = refl
 
 -- the test, and the test with a count that is one short
 pub passes : G.ghostsTest two 2 ≡ true
-unfolding two G.ghostsTest G.countOf ringTest countOf closing tailOf nextOf prevOf
+unfolding two G.ghostsTest G.countOf ringTest joined ahead behind tailOf nextOf prevOf
 passes = refl
 
 pub fails : G.ghostsTest (1 ∷ 2 ∷ 1 ∷ 0 ∷ 2 ∷ 1 ∷ 0 ∷ 3 ∷ 3 ∷ []) 2 ≡ false
-unfolding G.ghostsTest G.countOf ringTest countOf closing tailOf nextOf prevOf
+unfolding G.ghostsTest G.countOf ringTest joined ahead behind tailOf nextOf prevOf
 fails = refl

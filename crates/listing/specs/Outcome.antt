@@ -3,6 +3,7 @@ use mathlib.Core.Path.{_≡_}
 use mathlib.Core.List.{List, map}
 use mathlib.Core.Option.{Option}
 use Prim.Native.Nat.{ℕ}
+use lib.ListN.{replicate}
 use Rattle.rules.specs.Calls as rules
 use Rattle.rules.specs.Calls.{Answer}
 use Rattle.rules.specs.Public.{ListingDone, listed}
@@ -24,6 +25,13 @@ listedIs answer.Refused = rules.Refused 3
 
 abbrev pub listingDone : {S : Type 0} → Answer → Option S → List rules.Record → ListingDone S
 listingDone a o l = record { answer = a; area = o; records = l }
+
+-- records of zeros, as many as the largest cache has residents
+abbrev pub blank : Record
+blank = record { page = 0; frame = 0 }
+
+unfoldable pub blanks : List Record
+blanks = replicate 1024 blank
 
 module _ (P : Policy) where
   -- THE CONTRACT of a listing of the words w, which it leaves, into the records `lent`: it answers a and leaves the records `left`

@@ -12,7 +12,7 @@ ghost use Rattle.calls.specs.Policy.{policyOf};
 ghost use Rattle.opening.specs.Opening.{Holding};
 ghost use Rattle.listing.specs.Order.{order, past, takenFrom};
 ghost use Rattle.listing.specs.Steps.{Stands, StandsIn, Follows, StepIs, planOf};
-ghost use Rattle.listing.specs.Outcome.{ListingOutcome};
+ghost use Rattle.listing.specs.Outcome.{blanks, ListingOutcome};
 use calls::Kind;
 use opening::Opened;
 
@@ -168,4 +168,14 @@ pub fn list(area: &[u64], kind: Kind, records: &mut [Record]) -> Listed
         i += 1;
     }
     p.answer
+}
+
+// A listing into records of its own, enough for every cache, which it gives back: its callers lend no records. What the listing answers, and
+// how many of the records it wrote, `prepare` tells, for as much room.
+pub fn list_all(area: &[u64], kind: Kind) -> [Record; 1024]
+    ensures { λ r. ⌜ ListingOutcome (policyOf kind) (now (area .entry)) blanks r (planOf kind (now (area .entry)) 1024 .answer) ⌝ }
+{
+    let mut records = [Record { page: 0, frame: 0 }; 1024];
+    list(area, kind, &mut records);
+    records
 }

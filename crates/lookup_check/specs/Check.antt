@@ -61,12 +61,11 @@ pub record Holding (w : List ℕ) (m k live : ℕ) : Type 0 where
   pub table : Lookup w m k
   pub count : length (placesIn w m k) ≡ live
 
--- what the functions ask of the words
-pub record CanSuit (w : List ℕ) (m k x : ℕ) : Type 0 where
-  pub some : 0 < k
-  pub pages : m ≤ length w
-  pub place : x < m
-
+-- what the functions ask of the words: a bucket; a bucket and a place
 pub record CanWalk (w : List ℕ) (m k b : ℕ) : Type 0 where
   pub room : Room w m k
   pub bucket : b < k
+
+pub record CanGoOn (w : List ℕ) (m k b a : ℕ) : Type 0 where
+  pub walk : CanWalk w m k b
+  pub place : a < m

@@ -4,22 +4,18 @@
 // Each bucket is walked once. Each link is held against the link back, and there is a budget of places for all buckets together, so that the
 // test is linear in m + k whatever the words are.
 ghost use mathlib.Core.Path.{_≡_};
+ghost use Prim.Native.Nat.{_<_};
+ghost use lib.Dec.{eqb};
+ghost use Rattle.lookup.specs.Buckets.{bucketOf};
 ghost use Rattle.lookup.specs.Part.{Room};
-ghost use Rattle.lookup_check.specs.Check.{suitsTest, walkOf, lookupTest, CanSuit, CanWalk};
+ghost use Rattle.lookup_check.specs.Check.{walkFrom, walkOf, lookupTest, CanWalk, CanGoOn};
 
-// Whether the place x may follow the cell cur in bucket b: its page belongs there, and is above the page of cur, if that is a place.
-pub fn suits(w: &[u64], m: usize, k: usize, b: usize, cur: usize, x: usize) -> bool
-    requires { ⌜ CanSuit (now w) m k x ⌝ }
-    ensures { λ r. ⌜ r ≡ suitsTest (now (w .entry)) m k b cur x ⌝ }
+// Whether the page p belongs to bucket b.
+fn belongs(k: usize, b: usize, p: u64) -> bool
+    requires { ⌜ 0 < k ⌝ }
+    ensures { λ r. ⌜ r ≡ eqb (bucketOf k p) b ⌝ }
 {
-    let p = w[x];
-    if lookup::bucket_of(k, p) != b {
-        return false;
-    }
-    if cur < m {
-        return w[cur] < p;
-    }
-    true
+    lookup::bucket_of(k, p) == b
 }
 
 // What a walk finds: how much of the budget is left, or that the words are no lookup, or that the budget is too small.
@@ -28,15 +24,16 @@ pub enum Rest {
     Bad,
 }
 
-// The walk of bucket b, with a budget of so many places.
-pub fn walk(w: &[u64], m: usize, k: usize, b: usize, most: usize) -> Rest
-    requires { ⌜ CanWalk (now w) m k b ⌝ }
-    ensures { λ r. ⌜ r ≡ walkOf (now (w .entry)) m k b most ⌝ }
+// The walk of bucket b after its place a, with a budget of so many places. p is the page of the place that is come to.
+fn walk_on(w: &[u64], m: usize, k: usize, b: usize, most: usize, a: usize) -> Rest
+    requires { ⌜ CanGoOn (now w) m k b a ⌝ }
+    ensures { λ r. ⌜ r ≡ walkFrom (now (w .entry)) m k b most a ⌝ }
 {
     let s = m + b;
     let mut left = most;
-    let mut cur = s;
-    let mut x = lookup::next_of(w, m, s);
+    let mut cur = a;
+    let mut p = lookup::page_of(w, a);
+    let mut x = lookup::next_of(w, m, a);
     while x < m {
         if left == 0 {
             return Rest::Bad;
@@ -44,9 +41,14 @@ pub fn walk(w: &[u64], m: usize, k: usize, b: usize, most: usize) -> Rest
         if lookup::prev_of(w, m, x) != cur {
             return Rest::Bad;
         }
-        if suits(w, m, k, b, cur, x) {
+        let q = lookup::page_of(w, x);
+        if q <= p {
+            return Rest::Bad;
+        }
+        if belongs(k, b, q) {
             left = left - 1;
             cur = x;
+            p = q;
             x = lookup::next_of(w, m, x);
         } else {
             return Rest::Bad;
@@ -59,6 +61,37 @@ pub fn walk(w: &[u64], m: usize, k: usize, b: usize, most: usize) -> Rest
         return Rest::Bad;
     }
     Rest::Left(left)
+}
+
+// The walk of bucket b, with a budget of so many places. Most buckets have one place or none: the first has no page before it to be held against.
+pub fn walk(w: &[u64], m: usize, k: usize, b: usize, most: usize) -> Rest
+    requires { ⌜ CanWalk (now w) m k b ⌝ }
+    ensures { λ r. ⌜ r ≡ walkOf (now (w .entry)) m k b most ⌝ }
+{
+    let s = m + b;
+    let x = lookup::next_of(w, m, s);
+    if m <= x {
+        if x != s {
+            return Rest::Bad;
+        }
+        if lookup::prev_of(w, m, s) != s {
+            return Rest::Bad;
+        }
+        return Rest::Left(most);
+    }
+    if most == 0 {
+        return Rest::Bad;
+    }
+    if lookup::prev_of(w, m, x) != s {
+        return Rest::Bad;
+    }
+    let p = lookup::page_of(w, x);
+    if belongs(k, b, p) {
+        let left = most - 1;
+        walk_on(w, m, k, b, left, x)
+    } else {
+        Rest::Bad
+    }
 }
 
 // Whether the words are a lookup that holds exactly `live` places.

@@ -55,11 +55,11 @@ outputOf [] = []
 outputOf (t ∷ ts) = t .written ++ outputOf ts
 
 -- a feed of the bytes kept and a piece, `rest` being what is read after it or never: nothing, where it was the last
-pub record Fed (r : Replay) (w kept : List ℕ) (t : Turn) (rest : List ℕ) : Type 0 where
+pub record TurnIs (r : Replay) (w kept : List ℕ) (t : Turn) (rest : List ℕ) : Type 0 where
   pub feeds : Feeds r w (kept ++ t .piece) (t .last) (t .replay) (t .area) (t .used) (t .written)
   pub end : t .last ≡ true → rest ≡ []
 
 -- feeds one after the other, each with the bytes that the one before did not use up, until the replay has ended; `unread` is what of the input is not read then
 abbrev pub Run : Replay → List ℕ → List ℕ → List Turn → List ℕ → Type 0
 Run r w kept [] unread = r ≡ Ended
-Run r w kept (t ∷ ts) unread = Fed r w kept t (piecesOf ts ++ unread) × Run (t .replay) (t .area) (drop (t .used) (kept ++ t .piece)) ts unread
+Run r w kept (t ∷ ts) unread = TurnIs r w kept t (piecesOf ts ++ unread) × Run (t .replay) (t .area) (drop (t .used) (kept ++ t .piece)) ts unread

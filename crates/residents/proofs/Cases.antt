@@ -4,8 +4,8 @@ use mathlib.Core.Bool.{true, false}
 use mathlib.Core.List.{List, [], _∷_}
 use Prim.Native.Nat.{ℕ}
 use Rattle.cells.specs.Cells.{nextOf, prevOf, withNext, withPrev}
-use Rattle.rings.specs.Rings.{membersFrom, inserted, detached, fronted, ended, emptied, appended, filled}
-use Rattle.rings.specs.Walks.{closing, countOf, ringTest}
+use Rattle.rings.specs.Rings.{membersFrom, inserted, detached, fronted, ended, emptied, linked, chained, filled}
+use Rattle.rings.specs.Walks.{joined, ahead, behind, ringTest}
 use Rattle.tails.specs.Tails.{tailOf, withTail}
 use Rattle.residents.specs.Residents as R
 use Rattle.residents.specs.Changes as C
@@ -16,7 +16,7 @@ pub new : List ℕ
 new = 0 ∷ 0 ∷ 2 ∷ 9 ∷ 9 ∷ 9 ∷ 9 ∷ 9 ∷ 9 ∷ 1 ∷ 4 ∷ 4 ∷ 0 ∷ 2 ∷ 2 ∷ 3 ∷ 3 ∷ 0 ∷ 1 ∷ []
 
 pub new-made : C.made 2 (9 ∷ 9 ∷ 9 ∷ 9 ∷ 9 ∷ 9 ∷ 9 ∷ 9 ∷ 9 ∷ 9 ∷ 9 ∷ 9 ∷ 9 ∷ 9 ∷ 9 ∷ 9 ∷ 9 ∷ 9 ∷ 9 ∷ []) ≡ new
-unfolding new C.made C.freshLinks tailOf withTail filled appended emptied inserted nextOf prevOf withNext withPrev
+unfolding new C.made C.freshLinks tailOf withTail filled chained linked emptied inserted nextOf prevOf withNext withPrev
 new-made = refl
 
 -- frames 10 and 11 at the front of T1: slot 0, then slot 1
@@ -42,9 +42,9 @@ freed-top = refl
 
 -- the test, and the test with a list number that is wrong
 pub passes : T.residentsTest two 2 ≡ true
-unfolding two T.residentsTest T.countsTest T.sideTest T.ringAt T.slotTest R.countOf R.frameOf R.listOf R.bitOf R.listsOf ringTest countOf closing membersFrom tailOf nextOf prevOf
+unfolding two T.residentsTest T.countsTest T.sideTest T.ringAt T.slotTest R.countOf R.frameOf R.listOf R.bitOf R.listsOf ringTest joined ahead behind membersFrom tailOf nextOf prevOf
 passes = refl
 
 pub fails : T.residentsTest (C.withList 2 0 1 two) 2 ≡ false
-unfolding two C.withList T.residentsTest T.countsTest T.sideTest T.ringAt T.slotTest R.countOf R.frameOf R.listOf R.bitOf R.listsOf ringTest countOf closing membersFrom tailOf nextOf prevOf
+unfolding two C.withList T.residentsTest T.countsTest T.sideTest T.ringAt T.slotTest R.countOf R.frameOf R.listOf R.bitOf R.listsOf ringTest joined ahead behind membersFrom tailOf nextOf prevOf
 fails = refl

@@ -2,21 +2,22 @@
 use mathlib.Core.Path.{_≡_, refl, sym, ap, _∙_}
 use mathlib.Core.Bool.{Bool, true, false, cond}
 use mathlib.Core.List.{List, [], _∷_}
-use Prim.Native.Nat.{ℕ, _+_, _*_, _^_, _<_, _≤_}
+use Prim.Native.Nat.{ℕ, _+_, _-_, _*_, _^_, _<_, _≤_}
 use native.Mathlib.Omega.{arith}
 use lib.ListN.{length, getD}
 use lib.Dec.{eqb, ltb}
 use borrow.Author.Needs.{needs}
 use borrow.Author.Tests.{eq-eqb, ne-eqb, lt-ltb, le-ltb}
-use Rattle.cells.specs.Cells.{In, nextOf}
-use Rattle.rings.specs.Rings.{Ring, membersFrom}
-use Rattle.rings.specs.Walks.{ringTest}
-use Rattle.rings.proofs.Following.{Following, follow-start, follow-in, follow-end, follow-step, follow-next, follow-less}
+use Rattle.cells.specs.Cells.{In, nextOf, prevOf}
+use Rattle.cells.proofs.Laws.{in-below}
+use Rattle.rings.specs.Rings.{membersOf}
+use Rattle.rings.specs.Walks.{joined, ahead, behind, each, ringTest, CanWalk}
+use Rattle.rings.proofs.Walks.{ends-are}
+use Rattle.rings.proofs.Meeting.{Met, met-front, met-end, met-turn, met-none, met-astray, met-one, met-last}
 use Rattle.tails.specs.Tails.{tailOf, Tail}
 use Rattle.residents.specs.Residents.{linksOf, countOf, frameOf, listOf, bitOf, listsOf, Room}
 use Rattle.residents.specs.Changes.{HasSlot, HasList}
-use Rattle.residents.specs.Tests.{countsTest, ringAt, slotTest, slotsTest, sideTest, residentsTest, CanList}
-use Rattle.residents.proofs.Tests.{ring-sound}
+use Rattle.residents.specs.Tests.{countsTest, ringAt, slotTest, slotsTest, sideTest, residentsTest, CanStep}
 
 -- the counts
 module _ (w : List ℕ) (c : ℕ) where
@@ -59,56 +60,113 @@ module _ (w : List ℕ) (c i e l : ℕ) (q : l ≡ listOf w c e) where
 
 pub ruleset slotLaws = (slot-astray, slot-wide, slot-bit, needs)
 
--- the walk of list i has come to cur
-pub record SlotsLeft (w : List ℕ) (c i cur : ℕ) : Type 0 where
-  pub follow : Following (linksOf c w) c (c + i) cur
-  pub same : slotsTest w c i (membersFrom (linksOf c w) c cur) ≡ slotsTest w c i (listsOf w c i)
+-- a step of the walk of a list
+pub step-asks : (w : List ℕ) (c a : ℕ) → CanStep w c a → Tail w (3 + 3 * c) (In (tailOf (3 + 3 * c) w) a)
+step-asks w c a h = record { within = h .room .head; can = h .cell }
 
-pub list-asks : (w : List ℕ) (c i : ℕ) → CanList w c i → HasList w c i
-list-asks w c i h = let k : i < 2 = h .side in record { room = h .room; list = omega arith }
+pub slot-asks : (w : List ℕ) (c a x : ℕ) → CanStep w c a → x < c → Tail w (3 + 3 * c) (In (tailOf (3 + 3 * c) w) x)
+slot-asks w c a x h k = record { within = h .room .head; can = in-below (linksOf c w) (c + 2) x (h .room .links) (omega arith) }
 
-pub left-start : (w : List ℕ) (c i cur : ℕ) → CanList w c i → cur ≡ nextOf (tailOf (3 + 3 * c) w) (c + i) → SlotsLeft w c i cur
-unfolding listsOf
-left-start w c i cur h q = record { follow = follow-start (linksOf c w) c (c + i) _ cur (h .ring) q; same = rw q refl }
+pub slot-has : (w : List ℕ) (c a x : ℕ) → CanStep w c a → x < c → HasSlot w c x
+slot-has w c a x h k = record { room = h .room; slot = k }
 
-pub left-slot : (w : List ℕ) (c i cur : ℕ) → CanList w c i → cur < c → HasSlot w c cur
-left-slot w c i cur h k = record { room = h .room; slot = k }
+module _ (w : List ℕ) (c i a x : ℕ) (q : x ≡ nextOf (tailOf (3 + 3 * c) w) a) where
+  pub leads-out : c ≤ x → false ≡ ahead (linksOf c w) c (slotTest w c i) a
+  unfolding ahead
+  leads-out h = rw (le-ltb (nextOf (linksOf c w) a) c (rw q at h)) refl
 
-module _ (w : List ℕ) (c i cur : ℕ) (s : SlotsLeft w c i cur) where
-  pub left-asks : CanList w c i → cur < c → Tail w (3 + 3 * c) (In (tailOf (3 + 3 * c) w) cur)
-  left-asks h k = record { within = h .room .head; can = follow-in (linksOf c w) c (c + i) cur (s .follow) k }
+  module _ (y : ℕ) (h : x < c) (p : y ≡ prevOf (tailOf (3 + 3 * c) w) x) where
+    pub leads-astray : (y ≡ a → ⊥) → false ≡ ahead (linksOf c w) c (slotTest w c i) a
+    unfolding ahead
+    leads-astray d = rw (lt-ltb (nextOf (linksOf c w) a) c (rw q at h), ne-eqb (prevOf (linksOf c w) (nextOf (linksOf c w) a)) a (rw (p, q) at d)) refl
 
-  turn : cur < c → cond (slotTest w c i cur) (slotsTest w c i (membersFrom (linksOf c w) c (nextOf (linksOf c w) cur))) false ≡ slotsTest w c i (listsOf w c i)
-  turn k = ap (slotsTest w c i) (sym (follow-step (linksOf c w) c (c + i) cur (s .follow) k)) ∙ s .same
+    pub leads-slot : (t : Bool) → y ≡ a → t ≡ slotTest w c i x → t ≡ ahead (linksOf c w) c (slotTest w c i) a
+    unfolding ahead
+    leads-slot t e f = rw (lt-ltb (nextOf (linksOf c w) a) c (rw q at h), eq-eqb (prevOf (linksOf c w) (nextOf (linksOf c w) a)) a (rw (p, q) at e)) (rw q at f)
 
-  pub left-next : (t : Bool) (n : ℕ) → cur < c → t ≡ slotTest w c i cur → t ≡ true → n ≡ nextOf (tailOf (3 + 3 * c) w) cur → SlotsLeft w c i n
-  left-next t n k q e p = record { follow = follow-next (linksOf c w) c (c + i) cur (s .follow) k n p; same = rw p (sym (rw (sym q ∙ e) refl) ∙ turn k) }
+module _ (w : List ℕ) (c i b y : ℕ) (q : y ≡ prevOf (tailOf (3 + 3 * c) w) b) where
+  pub trails-out : c ≤ y → false ≡ behind (linksOf c w) c (slotTest w c i) b
+  unfolding behind
+  trails-out h = rw (le-ltb (prevOf (linksOf c w) b) c (rw q at h)) refl
 
-  pub left-less : (n : ℕ) → cur < c → n ≡ nextOf (tailOf (3 + 3 * c) w) cur → length (membersFrom (tailOf (3 + 3 * c) w) c n) < length (membersFrom (tailOf (3 + 3 * c) w) c cur)
-  left-less n k p = follow-less (linksOf c w) c (c + i) cur (s .follow) k n p
+  module _ (x : ℕ) (h : y < c) (p : x ≡ nextOf (tailOf (3 + 3 * c) w) y) where
+    pub trails-astray : (x ≡ b → ⊥) → false ≡ behind (linksOf c w) c (slotTest w c i) b
+    unfolding behind
+    trails-astray d = rw (lt-ltb (prevOf (linksOf c w) b) c (rw q at h), ne-eqb (nextOf (linksOf c w) (prevOf (linksOf c w) b)) b (rw (p, q) at d)) refl
 
-  pub left-bad : (t : Bool) → cur < c → t ≡ slotTest w c i cur → t ≡ false → false ≡ slotsTest w c i (listsOf w c i)
-  left-bad t k q e = sym (rw (sym q ∙ e) refl) ∙ turn k
+    pub trails-slot : (t : Bool) → x ≡ b → t ≡ slotTest w c i y → t ≡ behind (linksOf c w) c (slotTest w c i) b
+    unfolding behind
+    trails-slot t e f = rw (lt-ltb (prevOf (linksOf c w) b) c (rw q at h), eq-eqb (nextOf (linksOf c w) (prevOf (linksOf c w) b)) b (rw (p, q) at e)) (rw q at f)
 
-  pub left-end : c ≤ cur → true ≡ slotsTest w c i (listsOf w c i)
-  left-end k = ap (slotsTest w c i) (sym (follow-end (linksOf c w) c (c + i) cur (s .follow) k)) ∙ s .same
+pub ruleset stepLaws = (step-asks, slot-asks, slot-has, leads-out, leads-astray, leads-slot, trails-out, trails-astray, trails-slot, needs)
 
-pub ruleset leftLaws = (list-asks, left-start, left-slot, left-asks, left-next, left-less, left-bad, left-end, needs)
+-- the walk of list i has come to a and to b
+slots-each : (w : List ℕ) (c i : ℕ) (xs : List ℕ) → each (slotTest w c i) xs ≡ slotsTest w c i xs
+slots-each w c i [] = refl
+slots-each w c i (x ∷ xs) = rw (slots-each w c i xs) refl
 
--- a side, and all
-pub side-asks : (w : List ℕ) (c i : ℕ) (t : Bool) → HasList w c i → i < 2 → t ≡ ringAt w c i → t ≡ true → CanList w c i
-side-asks w c i t h k q e = record { room = h .room; side = k; ring = ring-sound w c i (h .room) (h .list) (sym q ∙ e) .0 }
+pub side-walk : (w : List ℕ) (c i : ℕ) → HasList w c i → CanWalk (linksOf c w) c (c + i)
+side-walk w c i h = let k : i < 3 = h .list in record { high = omega arith; root = in-below (linksOf c w) (c + 2) (c + i) (h .room .links) (omega arith) }
 
-pub side-bad : (w : List ℕ) (c i : ℕ) (t : Bool) → t ≡ ringAt w c i → t ≡ false → false ≡ sideTest w c i
-unfolding sideTest
-side-bad w c i t q e = rw (sym q ∙ e) refl
+pub record SideMet (w : List ℕ) (c i left a b : ℕ) : Type 0 where
+  pub has : HasList w c i
+  pub met : Met (linksOf c w) c (slotTest w c i) (sideTest w c i) left a b
 
-pub side-good : (w : List ℕ) (c i : ℕ) (t u : Bool) → t ≡ ringAt w c i → t ≡ true → u ≡ slotsTest w c i (listsOf w c i) → u ≡ sideTest w c i
-unfolding sideTest
-side-good w c i t u q e p = rw (sym q ∙ e) p
+pub side-start : (w : List ℕ) (c i : ℕ) → HasList w c i → SideMet w c i (getD w i 0) (c + i) (c + i)
+unfolding sideTest ringAt countOf listsOf
+side-start w c i h =
+    let k = side-walk w c i h in
+    record { has = h; met = record { same = ends-are (linksOf c w) c (slotTest w c i) (c + i) (getD w i 0) k ∙ (rw (slots-each w c i (membersOf (linksOf c w) c (c + i))) refl); front = k .root; end = k .root } }
 
-pub ruleset sideLaws = (side-asks, side-bad, side-good, needs)
+module _ (w : List ℕ) (c i left a b : ℕ) (k : SideMet w c i left a b) where
+  pub side-front : CanStep w c a
+  side-front = record { room = k .has .room; cell = k .met .front }
 
+  pub side-end : CanStep w c b
+  side-end = record { room = k .has .room; cell = k .met .end }
+
+  pub side-next : Tail w (3 + 3 * c) (In (tailOf (3 + 3 * c) w) a)
+  side-next = step-asks w c a side-front
+
+  pub side-prev : Tail w (3 + 3 * c) (In (tailOf (3 + 3 * c) w) b)
+  side-prev = step-asks w c b side-end
+
+  pub side-within : 3 + 3 * c ≤ length w
+  side-within = k .has .room .head
+
+  pub side-there : In (tailOf (3 + 3 * c) w) b
+  side-there = k .met .end
+
+  pub side-joins : Tail w (3 + 3 * c) (In (tailOf (3 + 3 * c) w) a × In (tailOf (3 + 3 * c) w) b)
+  side-joins = record { within = k .has .room .head; can = (k .met .front, k .met .end) }
+
+  pub side-none : (r : Bool) → left ≤ 1 → left ≡ 0 → r ≡ joined (tailOf (3 + 3 * c) w) a b → r ≡ sideTest w c i
+  side-none r h e q = met-none _ _ _ _ _ _ _ (k .met) r h e q
+
+  module _ (t : Bool) (q : t ≡ ahead (linksOf c w) c (slotTest w c i) a) where
+    pub side-lost : 1 < left → t ≡ false → false ≡ sideTest w c i
+    side-lost h e = met-front _ _ _ _ _ _ _ (k .met) t h q e
+
+    pub side-astray : left ≤ 1 → (left ≡ 0 → ⊥) → t ≡ false → false ≡ sideTest w c i
+    side-astray h d e = met-astray _ _ _ _ _ _ _ (k .met) t h d q e
+
+    module _ (x : ℕ) (e : t ≡ true) (v : x ≡ nextOf (tailOf (3 + 3 * c) w) a) where
+      pub side-last : In (tailOf (3 + 3 * c) w) x
+      side-last = met-last _ _ _ _ _ _ _ (k .met) (c + i) t x (side-walk w c i (k .has)) q e v
+
+      pub side-one : (r : Bool) → left ≤ 1 → (left ≡ 0 → ⊥) → r ≡ joined (tailOf (3 + 3 * c) w) x b → r ≡ sideTest w c i
+      side-one r h d p = met-one _ _ _ _ _ _ _ (k .met) t r x h d q e v p
+
+    module _ (u : Bool) (e : t ≡ true) (p : u ≡ behind (linksOf c w) c (slotTest w c i) b) where
+      pub side-cut : 1 < left → u ≡ false → false ≡ sideTest w c i
+      side-cut h f = met-end _ _ _ _ _ _ _ (k .met) t u h q e p f
+
+      pub side-turn : (x y : ℕ) → 1 < left → u ≡ true → x ≡ nextOf (tailOf (3 + 3 * c) w) a → y ≡ prevOf (tailOf (3 + 3 * c) w) b → SideMet w c i (left - 2) x y
+      side-turn x y h f v z = record { has = k .has; met = met-turn _ _ _ _ _ _ _ (k .met) (c + i) t u x y (side-walk w c i (k .has)) h q e p f v z }
+
+pub ruleset sideLaws = (side-start, side-front, side-end, side-next, side-prev, side-joins, side-none, side-lost, side-astray, side-one, side-cut, side-turn, needs)
+
+-- all
 module _ (w : List ℕ) (c : ℕ) (t : Bool) (q : t ≡ countsTest w c) where
   pub check-counts : t ≡ false → false ≡ residentsTest w c
   unfolding residentsTest

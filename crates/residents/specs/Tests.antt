@@ -5,7 +5,7 @@ use mathlib.Core.List.{List, [], _∷_}
 use Prim.Native.Nat.{ℕ, _+_, _*_, _^_, _<_, _≤_}
 use lib.ListN.{length}
 use lib.Dec.{eqb, ltb}
-use Rattle.rings.specs.Rings.{Ring}
+use Rattle.cells.specs.Cells.{In}
 use Rattle.rings.specs.Walks.{ringTest}
 use Rattle.residents.specs.Residents.{linksOf, countOf, frameOf, listOf, bitOf, listsOf, Room}
 
@@ -37,8 +37,7 @@ unfoldable pub residentsTest : List ℕ → ℕ → Bool
 residentsTest w c =
     cond (countsTest w c) (cond (sideTest w c 0) (cond (sideTest w c 1) (ringAt w c 2) false) false) false
 
--- what the walk of a list asks: it is a ring
-pub record CanList (w : List ℕ) (c i : ℕ) : Type 0 where
+-- what a step of a walk asks: the cell a is there
+pub record CanStep (w : List ℕ) (c a : ℕ) : Type 0 where
   pub room : Room w c
-  pub side : i < 2
-  pub ring : Ring (linksOf c w) c (c + i) (listsOf w c i)
+  pub cell : In (linksOf c w) a

@@ -10,9 +10,10 @@ ghost use Prim.Native.Nat.{_+_, _*_, _<_};
 ghost use Rattle.tails.specs.Tails.{withTail};
 ghost use Rattle.cells.specs.Cells.{nextOf, prevOf};
 ghost use Rattle.rings.specs.Rings.{CanFront, CanEnd};
-ghost use Rattle.residents.specs.Residents.{linksOf, countOf, frameOf, listOf, bitOf, listsOf, Room};
+ghost use Rattle.rings.specs.Walks.{ahead, behind};
+ghost use Rattle.residents.specs.Residents.{linksOf, countOf, frameOf, listOf, bitOf, Room};
 ghost use Rattle.residents.specs.Changes.{withFrame, withList, withBit, withSlot, recounted, shiftedFront, shiftedEnd, CanRecount, CanShift, promoted, sentBack, freed, addedFront, addedEnd, Added, freshLinks, made, IsResident, CanAdd, HasSlot, HasList};
-ghost use Rattle.residents.specs.Tests.{countsTest, ringAt, slotTest, slotsTest, sideTest, residentsTest, CanList};
+ghost use Rattle.residents.specs.Tests.{countsTest, ringAt, slotTest, sideTest, residentsTest, CanStep};
 
 // How many slots list i has.
 pub fn count(w: &[u64], c: usize, i: usize) -> usize
@@ -253,29 +254,66 @@ fn check_slot(w: &[u64], c: usize, i: usize, e: usize) -> bool
     }
 }
 
-// Whether each slot of list i, which is a ring, holds a resident of it.
-fn check_slots(w: &[u64], c: usize, i: usize) -> bool
-    requires { ⌜ CanList (now w) c i ⌝ }
-    ensures { λ r. ⌜ r ≡ slotsTest (now (w .entry)) c i (listsOf (now (w .entry)) c i) ⌝ }
+// Whether a slot stands after the cell a, and whether one stands before the cell b, by both links, and holds a resident of list i.
+fn slot_leads(w: &[u64], c: usize, i: usize, a: usize) -> bool
+    requires { ⌜ CanStep (now w) c a ⌝ }
+    ensures { λ r. ⌜ r ≡ ahead (linksOf c (now (w .entry))) c (slotTest (now (w .entry)) c i) a ⌝ }
 {
-    let a = 3 + 3 * c;
-    let mut cur = first(w, c, i);
-    while cur < c {
-        if check_slot(w, c, i, cur) {
-            cur = tails::next(w, a, cur);
-        } else {
-            return false;
-        }
+    let at = 3 + 3 * c;
+    let x = tails::next(w, at, a);
+    if c <= x {
+        return false;
     }
-    true
+    if tails::prev(w, at, x) != a {
+        return false;
+    }
+    check_slot(w, c, i, x)
 }
 
+fn slot_trails(w: &[u64], c: usize, i: usize, b: usize) -> bool
+    requires { ⌜ CanStep (now w) c b ⌝ }
+    ensures { λ r. ⌜ r ≡ behind (linksOf c (now (w .entry))) c (slotTest (now (w .entry)) c i) b ⌝ }
+{
+    let at = 3 + 3 * c;
+    let y = tails::prev(w, at, b);
+    if c <= y {
+        return false;
+    }
+    if tails::next(w, at, y) != b {
+        return false;
+    }
+    check_slot(w, c, i, y)
+}
+
+// Whether list i is a ring with as many slots as counted, each of which holds a resident of it. As `rings::check`: it is walked from both ends at once.
 fn check_side(w: &[u64], c: usize, i: usize) -> bool
     requires { ⌜ HasList (now w) c i × (i < 2) ⌝ }
     ensures { λ r. ⌜ r ≡ sideTest (now (w .entry)) c i ⌝ }
 {
-    if check_ring(w, c, i) {
-        check_slots(w, c, i)
+    let at = 3 + 3 * c;
+    let s = c + i;
+    let mut left = w[i] as usize;
+    let mut a = s;
+    let mut b = s;
+    while 1 < left {
+        if slot_leads(w, c, i, a) {
+            if slot_trails(w, c, i, b) {
+                a = tails::next(w, at, a);
+                b = tails::prev(w, at, b);
+                left = left - 2;
+            } else {
+                return false;
+            }
+        } else {
+            return false;
+        }
+    }
+    if left == 0 {
+        return tails::joins(w, at, a, b);
+    }
+    if slot_leads(w, c, i, a) {
+        let x = tails::next(w, at, a);
+        tails::joins(w, at, x, b)
     } else {
         false
     }

@@ -4,13 +4,12 @@ use mathlib.Core.Bool.{Bool, true, false}
 use mathlib.Core.List.{List, [], _∷_}
 use Prim.Native.Nat.{ℕ}
 use Rattle.cells.specs.Cells.{nextOf, prevOf, withNext, withPrev}
-use Rattle.rings.specs.Rings.{membersFrom, membersOf, inserted, detached, fronted, ended, replaced, emptied, appended, filled}
-use Rattle.rings.specs.declared.Walk.the-variants.{Members, Bad}
-use Rattle.rings.specs.Walks.{closing, countOf, ringTest}
+use Rattle.rings.specs.Rings.{membersFrom, membersOf, inserted, detached, fronted, ended, replaced, emptied, linked, before, chained, filled}
+use Rattle.rings.specs.Walks.{joined, ahead, behind, ringTest}
 
 -- whatever the words were
 pub two : filled 2 2 (9 ∷ 9 ∷ 9 ∷ 9 ∷ 9 ∷ 9 ∷ []) ≡ 1 ∷ 2 ∷ 2 ∷ 0 ∷ 0 ∷ 1 ∷ []
-unfolding filled appended emptied inserted nextOf prevOf withNext withPrev
+unfolding filled chained linked withNext withPrev
 two = refl
 
 pub two-members : membersOf (1 ∷ 2 ∷ 2 ∷ 0 ∷ 0 ∷ 1 ∷ []) 2 2 ≡ 0 ∷ 1 ∷ []
@@ -30,15 +29,19 @@ pub in-place : membersOf (replaced 0 1 (2 ∷ 2 ∷ 9 ∷ 9 ∷ 0 ∷ 0 ∷ []))
 unfolding membersFrom replaced detached inserted nextOf prevOf withNext withPrev
 in-place = refl
 
-pub counted : countOf (1 ∷ 2 ∷ 2 ∷ 0 ∷ 0 ∷ 1 ∷ []) 2 2 2 ≡ Members 2
-unfolding countOf closing nextOf prevOf
-counted = refl
+pub tested : ringTest (1 ∷ 2 ∷ 2 ∷ 0 ∷ 0 ∷ 1 ∷ []) 2 2 2 ≡ true
+unfolding ringTest joined ahead behind nextOf prevOf
+tested = refl
 
--- one more than allowed; and a link back that leads astray
-pub too-many : countOf (1 ∷ 2 ∷ 2 ∷ 0 ∷ 0 ∷ 1 ∷ []) 2 2 1 ≡ Bad
-unfolding countOf closing nextOf prevOf
+-- one more than it has, and one less; and a link back that leads astray
+pub too-many : ringTest (1 ∷ 2 ∷ 2 ∷ 0 ∷ 0 ∷ 1 ∷ []) 2 2 3 ≡ false
+unfolding ringTest joined ahead behind nextOf prevOf
 too-many = refl
 
-pub no-way-back : countOf (1 ∷ 2 ∷ 2 ∷ 2 ∷ 0 ∷ 1 ∷ []) 2 2 2 ≡ Bad
-unfolding countOf closing nextOf prevOf
+pub too-few : ringTest (1 ∷ 2 ∷ 2 ∷ 0 ∷ 0 ∷ 1 ∷ []) 2 2 1 ≡ false
+unfolding ringTest joined ahead behind nextOf prevOf
+too-few = refl
+
+pub no-way-back : ringTest (1 ∷ 2 ∷ 2 ∷ 2 ∷ 0 ∷ 1 ∷ []) 2 2 2 ≡ false
+unfolding ringTest joined ahead behind nextOf prevOf
 no-way-back = refl

@@ -7,7 +7,7 @@ pub mod Moves
 pub mod Reading
 pub mod Following
 pub mod Walks
-pub mod Counting
+pub mod Meeting
 pub mod Filling
 pub mod Family
 pub mod Needs

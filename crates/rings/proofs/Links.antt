@@ -1,9 +1,9 @@
--- The laws of linked segments. In order: a store outside a segment; what stands before and after its members; distinctness, which the links back give; a member put in; a member taken out.
+-- The laws of linked segments. In order: a store outside a segment; a cell more at the end; what stands before and after its members; distinctness, which the links back give; a member put in; a member taken out.
 -- Assumes nothing.
 use mathlib.Core.Path.{_≡_, refl, sym, ap, _∙_}
 use mathlib.Core.Bool.{Bool, true, false, cond}
 use mathlib.Core.Logic.{_⊎_, inl, inr, ⊎-elim}
-use mathlib.Core.List.{List, [], _∷_}
+use mathlib.Core.List.{List, [], _∷_, _++_}
 use Prim.Native.Nat.{ℕ, _<_, _≤_}
 use native.Mathlib.Omega.{arith}
 use lib.Dec.{eqb}
@@ -22,6 +22,11 @@ links-withNext w e v a (x ∷ xs) b f l = (next-other w e v a (λ q. f .0 (sym q
 pub links-withPrev : (w : List ℕ) (e v a : ℕ) (xs : List ℕ) (b : ℕ) → (e ≡ b → ⊥) → Fresh e xs → Links w a xs b → Links (withPrev w e v) a xs b
 links-withPrev w e v a [] b h f l = (next-withPrev w e v a ∙ l .0, prev-other w e v b (λ q. h (sym q)) ∙ l .1)
 links-withPrev w e v a (x ∷ xs) b h f l = (next-withPrev w e v a ∙ l .0, prev-other w e v x (λ q. f .0 (sym q)) ∙ l .1, links-withPrev w e v x xs b h (f .1) (l .2))
+
+-- a cell more at the end
+pub links-snoc : (w : List ℕ) (a : ℕ) (xs : List ℕ) (y b : ℕ) → Links w a xs y → nextOf w y ≡ b → prevOf w b ≡ y → Links w a (xs ++ (y ∷ [])) b
+links-snoc w a [] y b l n p = (l .0, l .1, (n, p))
+links-snoc w a (x ∷ xs) y b l n p = (l .0, l .1, links-snoc w x xs y b (l .2) n p)
 
 -- what stands before a member is the start or a member; what stands after it, a member or the end
 pub prev-mem : (w : List ℕ) (a : ℕ) (xs : List ℕ) (b e : ℕ) → Links w a xs b → Mem e xs → Mem (prevOf w e) (a ∷ xs)

@@ -78,13 +78,21 @@ replaced x y w = inserted (nextOf w x) y (detached x w)
 unfoldable pub emptied : ℕ → List ℕ → List ℕ
 emptied s w = withPrev (withNext w s s) s s
 
--- the cells below n come to the end of the ring of s, in rising order; they become that ring
-unfoldable pub appended : ℕ → ℕ → List ℕ → List ℕ
-appended s zero w = w
-appended s (suc n) w = inserted s n (appended s n w)
+-- b now stands after a
+unfoldable pub linked : ℕ → ℕ → List ℕ → List ℕ
+linked a b w = withPrev (withNext w a b) b a
+
+-- the cell before n, where the sentinel s comes before the first; the cells below n one after the other, from the sentinel on; they become that ring
+abbrev pub before : ℕ → ℕ → ℕ
+before s zero = s
+before s (suc n) = n
+
+unfoldable pub chained : ℕ → ℕ → List ℕ → List ℕ
+chained s zero w = w
+chained s (suc n) w = linked (before s n) n (chained s n w)
 
 unfoldable pub filled : ℕ → ℕ → List ℕ → List ℕ
-filled s n w = appended s n (emptied s w)
+filled s n w = linked (before s n) s (chained s n w)
 
 -- WHAT THE CHANGES ASK: the cells that are touched are there
 pub record CanInsert (w : List ℕ) (f e : ℕ) : Type 0 where

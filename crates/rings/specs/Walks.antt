@@ -1,38 +1,46 @@
--- The test of a ring, for any words: the walk by next from the sentinel back to it, with each link held against the link back. Assumes nothing.
+-- The test of a ring, for any words: a walk by next and one by prev, from both ends at once, each link held against the link back, until they meet. Each member is
+-- put to a test T besides. Assumes nothing.
 use mathlib.Core.Bool.{Bool, true, false, cond}
-use mathlib.Core.List.{List}
+use mathlib.Core.List.{List, [], _∷_}
 use Prim.Native.Nat.{ℕ, zero, suc, _≤_}
 use lib.Dec.{eqb, ltb}
 use Rattle.cells.specs.Cells.{In, nextOf, prevOf}
-use Rattle.rings.specs.declared.Walk.{Walk}
-use Rattle.rings.specs.declared.Walk.the-variants.{Members, Bad}
 
--- the walk, n members passed, has come to a, after which no member follows: it ends well at the sentinel s
-unfoldable pub closing : List ℕ → ℕ → ℕ → ℕ → Walk
-closing w s n a = cond (eqb (nextOf w a) s) (cond (eqb (prevOf w s) a) (Members n) Bad) Bad
+-- b stands after a
+unfoldable pub joined : List ℕ → ℕ → ℕ → Bool
+joined w a b = cond (eqb (nextOf w a) b) (eqb (prevOf w b) a) false
 
--- the walk from a on, n members passed, with at most `left` members to come
-abbrev pub countFrom : List ℕ → ℕ → ℕ → ℕ → ℕ → ℕ → Walk
-countFrom w m s zero n a = cond (ltb (nextOf w a) m) Bad (closing w s n a)
-countFrom w m s (suc left) n a =
-    cond (ltb (nextOf w a) m)
-    (cond (eqb (prevOf w (nextOf w a)) a) (countFrom w m s left (suc n) (nextOf w a)) Bad)
-    (closing w s n a)
+-- a member that passes the test stands after a; and one stands before b
+unfoldable pub ahead : List ℕ → ℕ → (ℕ → Bool) → ℕ → Bool
+ahead w m T a = cond (ltb (nextOf w a) m) (cond (eqb (prevOf w (nextOf w a)) a) (T (nextOf w a)) false) false
 
--- how many members the ring of s has: `Bad` where there is no ring, or it has more than `most`
-unfoldable pub countOf : List ℕ → ℕ → ℕ → ℕ → Walk
-countOf w m s most = countFrom w m s most 0 s
+unfoldable pub behind : List ℕ → ℕ → (ℕ → Bool) → ℕ → Bool
+behind w m T b = cond (ltb (prevOf w b) m) (cond (eqb (nextOf w (prevOf w b)) b) (T (prevOf w b)) false) false
 
--- whether a walk found n members
-abbrev pub found : ℕ → Walk → Bool
-found n (Members k) = eqb k n
-found n Bad = false
+-- n members lead from a to b, and each passes the test
+abbrev pub between : List ℕ → ℕ → (ℕ → Bool) → ℕ → ℕ → ℕ → Bool
+between w m T zero a b = joined w a b
+between w m T (suc zero) a b = cond (ahead w m T a) (joined w (nextOf w a) b) false
+between w m T (suc (suc n)) a b = cond (ahead w m T a) (cond (behind w m T b) (between w m T n (nextOf w a) (prevOf w b)) false) false
 
--- whether the ring of s has n members
+-- each of these passes the test; the test that all pass
+abbrev pub each : (ℕ → Bool) → List ℕ → Bool
+each T [] = true
+each T (x ∷ xs) = cond (T x) (each T xs) false
+
+abbrev pub any : ℕ → Bool
+any x = true
+
+-- THE TEST: the ring of s has n members
 unfoldable pub ringTest : List ℕ → ℕ → ℕ → ℕ → Bool
-ringTest w m s n = found n (countOf w m s n)
+ringTest w m s n = between w m any n s s
 
 -- what a walk asks of the words: s is a sentinel
 pub record CanWalk (w : List ℕ) (m s : ℕ) : Type 0 where
   pub high : m ≤ s
   pub root : In w s
+
+-- what a step asks of the words: the ring's sentinel is there, and the cell
+pub record CanStep (w : List ℕ) (m s a : ℕ) : Type 0 where
+  pub walk : CanWalk w m s
+  pub cell : In w a

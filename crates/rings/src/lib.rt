@@ -6,8 +6,8 @@
 // for one ring and for another beside it in proofs/Ring.antt and Moves.antt, for a family of rings in Family.antt.
 ghost use mathlib.Core.Path.{_≡_};
 ghost use Rattle.cells.specs.Cells.{In};
-ghost use Rattle.rings.specs.Rings.{inserted, detached, fronted, ended, replaced, emptied, filled, CanInsert, CanDetach, CanFront, CanEnd, CanReplace, CanFill};
-ghost use Rattle.rings.specs.Walks.{countOf, ringTest, CanWalk};
+ghost use Rattle.rings.specs.Rings.{inserted, detached, fronted, ended, replaced, emptied, linked, filled, CanInsert, CanDetach, CanFront, CanEnd, CanReplace, CanFill};
+ghost use Rattle.rings.specs.Walks.{joined, ahead, behind, any, ringTest, CanWalk, CanStep};
 
 // e, which is in no ring, comes before f, a member or a sentinel: before the sentinel is the end.
 pub fn insert(w: &mut [u64], f: usize, e: usize)
@@ -70,61 +70,88 @@ pub fn empty(w: &mut [u64], s: usize)
     cells::set_prev(w, s, s);
 }
 
-// The ring of s has all members, in rising order. Any words may lie there before.
+// b now stands after a.
+fn link(w: &mut [u64], a: usize, b: usize)
+    requires { ⌜ In (now w) a × In (now w) b ⌝ }
+    ensures { λ _. ⌜ now (w .exit) ≡ linked a b (now (w .entry)) ⌝ }
+{
+    cells::set_next(w, a, b);
+    cells::set_prev(w, b, a);
+}
+
+// The ring of s has all members, in rising order. Any words may lie there before. p is the cell before i.
 pub fn fill(w: &mut [u64], m: usize, s: usize)
     requires { ⌜ CanFill (now w) m s ⌝ }
     ensures { λ _. ⌜ now (w .exit) ≡ filled s m (now (w .entry)) ⌝ }
 {
-    empty(w, s);
+    let mut p = s;
     let mut i = 0;
     while i < m {
-        insert(w, s, i);
+        link(w, p, i);
+        p = i;
         i = i + 1;
     }
+    link(w, p, s);
 }
 
-// What a walk finds: so many members, or no ring, or more members than allowed.
-pub enum Walk {
-    Members(usize),
-    Bad,
-}
-
-// How many members the ring of s has, at most `most`, for any words. Each link is held against the link back, so that no cell is
-// passed twice: the walk is linear in m whatever the words are.
-pub fn count(w: &[u64], m: usize, s: usize, most: usize) -> Walk
-    requires { ⌜ CanWalk (now w) m s ⌝ }
-    ensures { λ r. ⌜ r ≡ countOf (now (w .entry)) m s most ⌝ }
+// Whether b stands after a, by both links.
+pub fn joins(w: &[u64], a: usize, b: usize) -> bool
+    requires { ⌜ In (now w) a × In (now w) b ⌝ }
+    ensures { λ r. ⌜ r ≡ joined (now (w .entry)) a b ⌝ }
 {
-    let mut n = 0;
-    let mut cur = s;
-    let mut x = cells::next(w, s);
-    while x < m {
-        if n == most {
-            return Walk::Bad;
-        }
-        if cells::prev(w, x) != cur {
-            return Walk::Bad;
-        }
-        n = n + 1;
-        cur = x;
-        x = cells::next(w, x);
+    if cells::next(w, a) == b {
+        cells::prev(w, b) == a
+    } else {
+        false
     }
-    if x != s {
-        return Walk::Bad;
-    }
-    if cells::prev(w, s) != cur {
-        return Walk::Bad;
-    }
-    Walk::Members(n)
 }
 
-// Whether the ring of s has exactly n members, for any words.
+// Whether a member of the ring of s stands after a, and whether one stands before b, by both links.
+fn leads(w: &[u64], m: usize, s: usize, a: usize) -> bool
+    requires { ⌜ CanStep (now w) m s a ⌝ }
+    ensures { λ r. ⌜ r ≡ ahead (now (w .entry)) m any a ⌝ }
+{
+    let x = cells::next(w, a);
+    if x < m { cells::prev(w, x) == a } else { false }
+}
+
+fn trails(w: &[u64], m: usize, s: usize, b: usize) -> bool
+    requires { ⌜ CanStep (now w) m s b ⌝ }
+    ensures { λ r. ⌜ r ≡ behind (now (w .entry)) m any b ⌝ }
+{
+    let y = cells::prev(w, b);
+    if y < m { cells::next(w, y) == b } else { false }
+}
+
+// Whether the ring of s has exactly n members, for any words. It is walked from both ends at once, a from the front and b from the end: a step waits for the one
+// before it, and so two walks of half the members take half the time. Each link is held against the link back, so that no cell is passed twice.
 pub fn check(w: &[u64], m: usize, s: usize, n: usize) -> bool
     requires { ⌜ CanWalk (now w) m s ⌝ }
     ensures { λ r. ⌜ r ≡ ringTest (now (w .entry)) m s n ⌝ }
 {
-    match count(w, m, s, n) {
-        Walk::Members(k) => k == n,
-        Walk::Bad => false,
+    let mut left = n;
+    let mut a = s;
+    let mut b = s;
+    while 1 < left {
+        if leads(w, m, s, a) {
+            if trails(w, m, s, b) {
+                a = cells::next(w, a);
+                b = cells::prev(w, b);
+                left = left - 2;
+            } else {
+                return false;
+            }
+        } else {
+            return false;
+        }
+    }
+    if left == 0 {
+        return joins(w, a, b);
+    }
+    if leads(w, m, s, a) {
+        let x = cells::next(w, a);
+        joins(w, x, b)
+    } else {
+        false
     }
 }

@@ -4,7 +4,7 @@ use mathlib.Core.Path.{_≡_, refl, sym, ap, _∙_}
 use mathlib.Core.Bool.{Bool, true, false}
 use mathlib.Core.Logic.{⊎-elim}
 use mathlib.Core.List.{List}
-use Prim.Native.Nat.{ℕ, _+_, _*_, _<_, _≤_}
+use Prim.Native.Nat.{ℕ, _+_, _-_, _*_, _<_, _≤_}
 use native.Mathlib.Omega.{arith}
 use lib.ListN.{length, getD}
 use lib.Dec.{leb}
@@ -25,7 +25,7 @@ use Rattle.parts.specs.Parts.{Parts}
 use Rattle.area.specs.Part.{part}
 use Rattle.area.specs.Area.{residentsIn, ghostsIn, lookupIn, sideOf, endAt, partsOf, Starts, Fit}
 use Rattle.area.proofs.Laws.{ghosts-part}
-use Rattle.state_check.specs.Check.{Fits, Listed, Few, CanTell, CanSpare, deadsTest, rowCount, liveCount, listsTest, heldTest, deadTest, sumsTest, partsTest, stateTest}
+use Rattle.state_check.specs.Check.{Fits, Listed, Few, CanTellAll, CanSpare, deadsTest, rowCount, liveCount, listsTest, heldTest, deadTest, sumsTest, partsTest, stateTest}
 use Rattle.area.proofs.Laws.{residents-room, ghosts-room}
 use Rattle.area.proofs.Rooms.{lookup-room, have-room}
 use Rattle.state_check.proofs.Lists.{AreLists, lists-sound, first-few, second-few, ghost-few}
@@ -50,17 +50,27 @@ pub fit-of : (c : ℕ) (w : List ℕ) (A : Type 0) → Fits c w → A → Fit c 
 fit-of c w A f a = record { small = f .small; size = f .size; can = a }
 
 -- the walks
-pub free-asks : (c : ℕ) (w : List ℕ) → c ≤ 1024 → endAt c ≤ length w → residents.IsResidents (residentsIn c w) c → CanTell (residentsIn c w) (3 + 3 * c) (lookupIn c w) c (c + 2) 0
+pub free-asks : (c : ℕ) (w : List ℕ) → c ≤ 1024 → endAt c ≤ length w → residents.IsResidents (residentsIn c w) c → (n : ℕ) → n ≡ residents.countOf (residentsIn c w) 2 → CanTellAll (residentsIn c w) (3 + 3 * c) (lookupIn c w) c (c + 2) 0 n
 unfolding residents.listsOf
-free-asks c w small size r = record { small = small; within = r .room .head; ring = r .rings 2 (omega arith); lookup = lookup-room c w small size; first = omega arith }
+free-asks c w small size r n q = record { tell = record { small = small; within = r .room .head; ring = r .rings 2 (omega arith); lookup = lookup-room c w small size; first = omega arith }; count = sym (q ∙ r .counts 2 (omega arith)) }
 
 pub free-is : (c : ℕ) (w k : List ℕ) (r : Bool) → r ≡ deadsTest k (placesOf c) 0 (membersOf (tailOf (3 + 3 * c) w) c (c + 2)) → r ≡ deadsTest k (placesOf c) 0 (residents.listsOf w c 2)
 unfolding residents.listsOf
 free-is c w k r q = q
 
-pub spare-asks : (c : ℕ) (i : Side) (a from : ℕ) (w : List ℕ) → c ≤ 1024 → endAt c ≤ length w → Starts c i a → from ≤ 2 * c → ghosts.IsGhosts (ghostsIn i c w) c → CanTell (part a (a + 2 * c + 5) w) 1 (lookupIn c w) c (c + 1) from
+pub spare-asks : (c : ℕ) (i : Side) (a from : ℕ) (w : List ℕ) → c ≤ 1024 → endAt c ≤ length w → Starts c i a → from ≤ 2 * c → ghosts.IsGhosts (ghostsIn i c w) c → (n : ℕ) → n ≡ ghosts.countOf (ghostsIn i c w) → CanTellAll (part a (a + 2 * c + 5) w) 1 (lookupIn c w) c (c + 1) from (c - n)
 unfolding ghosts.spareOf
-spare-asks c i a from w small size s f g = rw (ghosts-part c i a w s) (record { small = small; within = g .room .head; ring = g .spares; lookup = lookup-room c w small size; first = f })
+spare-asks c i a from w small size s f g n q =
+    let e : ghosts.countOf (ghostsIn i c w) ≡ length (ghosts.liveOf (ghostsIn i c w) c) = g .count in
+    let h : length (ghosts.liveOf (ghostsIn i c w) c) + length (ghosts.spareOf (ghostsIn i c w) c) ≡ c = g .all in
+    let z : length (ghosts.spareOf (ghostsIn i c w) c) ≡ c - n = omega arith in
+    rw (ghosts-part c i a w s) (record { tell = record { small = small; within = g .room .head; ring = g .spares; lookup = lookup-room c w small size; first = f }; count = z })
+
+pub spare-less : (c i n : ℕ) (w : List ℕ) (from : ℕ) → CanSpare c w i from → n ≡ ghosts.countOf (ghostsIn (sideOf i) c w) → n ≤ c
+spare-less c i n w from h q =
+    let e : ghosts.countOf (ghostsIn (sideOf i) c w) ≡ length (ghosts.liveOf (ghostsIn (sideOf i) c w) c) = h .ghosts .count in
+    let z : length (ghosts.liveOf (ghostsIn (sideOf i) c w) c) + length (ghosts.spareOf (ghostsIn (sideOf i) c w) c) ≡ c = h .ghosts .all in
+    omega arith
 
 pub spare-is : (c : ℕ) (i : Side) (a from : ℕ) (w k : List ℕ) (r : Bool) → Starts c i a → r ≡ deadsTest k (placesOf c) from (membersOf (tailOf 1 (part a (a + 2 * c + 5) w)) c (c + 1)) → r ≡ deadsTest k (placesOf c) from (ghosts.spareOf (ghostsIn i c w) c)
 unfolding ghosts.spareOf
@@ -190,19 +200,19 @@ module _ (kind c : ℕ) (p : Parts) (t : Bool) (q : t ≡ listsTest c p) where
   unfolding partsTest
   parts-lists e = rw (sym q ∙ e) refl
 
-  module _ (u : Bool) (e : t ≡ true) (y : u ≡ heldTest c p) where
-    pub parts-held : u ≡ false → false ≡ partsTest kind c p
+  module _ (u : Bool) (e : t ≡ true) (y : u ≡ deadTest c p) where
+    pub parts-dead : u ≡ false → false ≡ partsTest kind c p
     unfolding partsTest
-    parts-held f = rw (sym q ∙ e, sym y ∙ f) refl
+    parts-dead f = rw (sym q ∙ e, sym y ∙ f) refl
 
-    module _ (v : Bool) (f : u ≡ true) (z : v ≡ deadTest c p) where
-      pub parts-dead : v ≡ false → false ≡ partsTest kind c p
+    module _ (v : Bool) (f : u ≡ true) (z : v ≡ sumsTest kind c p) where
+      pub parts-sums : v ≡ false → false ≡ partsTest kind c p
       unfolding partsTest
-      parts-dead g = rw (sym q ∙ e, sym y ∙ f, sym z ∙ g) refl
+      parts-sums g = rw (sym q ∙ e, sym y ∙ f, sym z ∙ g) refl
 
-      pub parts-sums : (b : Bool) → v ≡ true → b ≡ sumsTest kind c p → b ≡ partsTest kind c p
+      pub parts-held : (b : Bool) → v ≡ true → b ≡ heldTest c p → b ≡ partsTest kind c p
       unfolding partsTest
-      parts-sums b g x = rw (sym q ∙ e, sym y ∙ f, sym z ∙ g) x
+      parts-held b g x = rw (sym q ∙ e, sym y ∙ f, sym z ∙ g) x
 
 -- ---- all
 module _ (kind : ℕ) (w : List ℕ) where

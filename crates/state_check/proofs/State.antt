@@ -55,14 +55,14 @@ passed kind w q =
     let e = neither (ltb (length w) (endAt (capacityOf w))) _ (d .1) in
     let f = neither (ltb (capacityOf w) (targetOf w)) _ (e .1) in
     let g = both (listsTest (capacityOf w) (partsOf (capacityOf w) w)) _ (f .1) in
-    let i = both (heldTest (capacityOf w) (partsOf (capacityOf w) w)) _ (g .1) in
-    let j = both (deadTest (capacityOf w) (partsOf (capacityOf w) w)) _ (i .1) in
+    let i = both (deadTest (capacityOf w) (partsOf (capacityOf w) w)) _ (g .1) in
+    let j = both (sumsTest kind (capacityOf w) (partsOf (capacityOf w) w)) _ (i .1) in
     let size : endAt (capacityOf w) ≤ length w = ltb-false (length w) (endAt (capacityOf w)) (e .0) in
     record {
       kind-is = eqb-true (kindOf w) kind (b .0);
       size = size;
-      holds = parts-sound (capacityOf w) (partsOf (capacityOf w) w) (have-room (capacityOf w) w (ltb-false 1024 (capacityOf w) (d .0)) size) (rw (target-is (capacityOf w) w) (ltb-false (capacityOf w) (targetOf w) (f .0))) (g .0) (i .0) (j .0);
-      sums = j .1;
+      holds = parts-sound (capacityOf w) (partsOf (capacityOf w) w) (have-room (capacityOf w) w (ltb-false 1024 (capacityOf w) (d .0)) size) (rw (target-is (capacityOf w) w) (ltb-false (capacityOf w) (targetOf w) (f .0))) (g .0) (j .1) (i .0);
+      sums = j .0;
     }
 
 -- ---- SOUND
@@ -102,7 +102,7 @@ sums-complete kind c p h = go (eqb kind 1)
 
 parts-complete : (kind c : ℕ) (p : Parts) → Holds c p → Formed kind (stateOf c p) → partsTest kind c p ≡ true
 unfolding partsTest
-parts-complete kind c p h f = rw (lists-pass c p h, held-pass c p h, dead-pass c p h) (sums-complete kind c p h f)
+parts-complete kind c p h f = rw (lists-pass c p h, dead-pass c p h, sums-complete kind c p h f) (held-pass c p h)
 
 header-complete : (kind c : ℕ) (w : List ℕ) → capacityOf w ≡ c → kindOf w ≡ kind → c ≤ 1024 → endAt c ≤ length w → targetOf w ≤ c → partsTest kind c (partsOf c w) ≡ true → stateTest kind w ≡ true
 unfolding stateTest

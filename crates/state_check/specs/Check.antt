@@ -5,7 +5,7 @@ use mathlib.Core.List.{List, [], _∷_}
 use Prim.Native.Nat.{ℕ, _+_, _*_, _<_, _≤_}
 use lib.Dec.{eqb, ltb, leb}
 use lib.ListN.{length}
-use Rattle.cells.specs.Cells.{prevOf}
+use Rattle.cells.specs.Cells.{In, prevOf}
 use Rattle.rings.specs.Rings.{Ring, membersOf}
 use Rattle.tails.specs.Tails.{tailOf}
 use Rattle.residents.specs.Residents as residents
@@ -38,6 +38,10 @@ heldTest c p = lookupTest (p .lookup) (placesOf c) (bucketsOf c) (liveCount p)
 unfoldable pub deadAt : List ℕ → ℕ → ℕ → Bool
 deadAt k m x = eqb (prevOf (linksOf m k) x) x
 
+-- the place of a slot or a cell x, which is `from` + x
+unfoldable pub deadFrom : List ℕ → ℕ → ℕ → ℕ → Bool
+deadFrom k c from x = deadAt k (placesOf c) (from + x)
+
 -- each of these, once `from` is added
 abbrev pub deadsTest : List ℕ → ℕ → ℕ → List ℕ → Bool
 deadsTest k m from [] = true
@@ -57,7 +61,7 @@ sumsTest kind c p = cond (eqb kind 1) (cond (ltb (c + 1) (rowCount p)) false (le
 
 -- ---- the parts together
 unfoldable pub partsTest : ℕ → ℕ → Parts → Bool
-partsTest kind c p = cond (listsTest c p) (cond (heldTest c p) (cond (deadTest c p) (sumsTest kind c p) false) false) false
+partsTest kind c p = cond (listsTest c p) (cond (deadTest c p) (cond (sumsTest kind c p) (heldTest c p) false) false) false
 
 -- THE TEST: the header, and then the parts
 unfoldable pub stateTest : ℕ → List ℕ → Bool
@@ -92,6 +96,15 @@ pub record CanTell (w : List ℕ) (a : ℕ) (k : List ℕ) (c s from : ℕ) : Ty
   pub ring : Ring (tailOf a w) c s (membersOf (tailOf a w) c s)
   pub lookup : Room k (placesOf c) (bucketsOf c)
   pub first : from ≤ 2 * c
+
+-- that, and a cell x; that, and how many members the ring has
+pub record CanTellAt (w : List ℕ) (a : ℕ) (k : List ℕ) (c s from x : ℕ) : Type 0 where
+  pub tell : CanTell w a k c s from
+  pub cell : In (tailOf a w) x
+
+pub record CanTellAll (w : List ℕ) (a : ℕ) (k : List ℕ) (c s from n : ℕ) : Type 0 where
+  pub tell : CanTell w a k c s from
+  pub count : length (membersOf (tailOf a w) c s) ≡ n
 
 -- the ghost list of a side, whose first cell has the place `from`
 pub record CanSpare (c : ℕ) (w : List ℕ) (i from : ℕ) : Type 0 where

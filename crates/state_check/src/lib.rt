@@ -1,11 +1,12 @@
 // The exact check of an area, for any words of any length: whether they are a writing of a well-formed state of that kind (1 ARC, 2 CAR).
 //
-// Each ring is walked once, each bucket of the lookup once. A place of the lookup that belongs to a free slot or to a spare cell has to be
+// Each ring is walked from both ends, each bucket of the lookup once. A place of the lookup that belongs to a free slot or to a spare cell has to be
 // dead: then the lookup, which holds as many places as the lists have, holds exactly theirs. All is linear in the capacity whatever the
 // words are.
 ghost use mathlib.Core.Path.{_≡_};
 ghost use Prim.Native.Nat.{_+_, _*_, _<_};
 ghost use Rattle.rings.specs.Rings.{membersOf};
+ghost use Rattle.rings.specs.Walks.{ahead, behind};
 ghost use Rattle.tails.specs.Tails.{tailOf};
 ghost use Rattle.residents.specs.Residents.{countOf as residentCount, listsOf, IsResidents};
 ghost use Rattle.residents.specs.Tests.{residentsTest};
@@ -13,24 +14,73 @@ ghost use Rattle.ghosts.specs.Ghosts.{countOf as ghostCount, spareOf, ghostsTes
 ghost use Rattle.lookup.specs.Buckets.{bucketsOf, placesOf};
 ghost use Rattle.lookup_check.specs.Check.{lookupTest};
 ghost use Rattle.area.specs.Area.{residentsIn, ghostsIn, lookupIn, sideOf, partsOf, Fit};
-ghost use Rattle.state_check.specs.Check.{Fits, Listed, Few, CanTell, CanSpare, deadsTest, liveCount, rowCount, listsTest, heldTest, deadTest, sumsTest, partsTest, stateTest};
+ghost use Rattle.state_check.specs.Check.{Fits, Listed, Few, CanTellAt, CanTellAll, CanSpare, deadFrom, deadsTest, liveCount, rowCount, listsTest, heldTest, deadTest, sumsTest, partsTest, stateTest};
 
-// Whether each member of the ring of s, in the words of w from a on, is a dead place of the lookup k, once `from` is added to it.
-fn ring_dead(w: &[u64], a: usize, k: &[u64], c: usize, s: usize, from: usize) -> bool
-    requires { ⌜ CanTell (now w) a (now k) c s from ⌝ }
+// Whether a member of the ring of s, in the words of w from a on, stands after the cell x, and whether one stands before the cell y, by both links, and is a dead place
+// of the lookup k, once `from` is added to it.
+fn dead_leads(w: &[u64], a: usize, k: &[u64], c: usize, s: usize, from: usize, x: usize) -> bool
+    requires { ⌜ CanTellAt (now w) a (now k) c s from x ⌝ }
+    ensures { λ r. ⌜ r ≡ ahead (tailOf a (now (w .entry))) c (deadFrom (now (k .entry)) c from) x ⌝ }
+{
+    let z = tails::next(w, a, x);
+    if c <= z {
+        return false;
+    }
+    if tails::prev(w, a, z) != x {
+        return false;
+    }
+    let m = 3 * c;
+    let e = from + z;
+    lookup::dead(k, m, e)
+}
+
+fn dead_trails(w: &[u64], a: usize, k: &[u64], c: usize, s: usize, from: usize, y: usize) -> bool
+    requires { ⌜ CanTellAt (now w) a (now k) c s from y ⌝ }
+    ensures { λ r. ⌜ r ≡ behind (tailOf a (now (w .entry))) c (deadFrom (now (k .entry)) c from) y ⌝ }
+{
+    let z = tails::prev(w, a, y);
+    if c <= z {
+        return false;
+    }
+    if tails::next(w, a, z) != y {
+        return false;
+    }
+    let m = 3 * c;
+    let e = from + z;
+    lookup::dead(k, m, e)
+}
+
+// Whether each of the n members of the ring of s, in the words of w from a on, is a dead place of the lookup k, once `from` is added to it. As `rings::check`: the
+// ring is walked from both ends at once.
+fn ring_dead(w: &[u64], a: usize, k: &[u64], c: usize, s: usize, from: usize, n: usize) -> bool
+    requires { ⌜ CanTellAll (now w) a (now k) c s from n ⌝ }
     ensures { λ r. ⌜ r ≡ deadsTest (now (k .entry)) (placesOf c) from (membersOf (tailOf a (now (w .entry))) c s) ⌝ }
 {
-    let m = 3 * c;
-    let mut cur = tails::next(w, a, s);
-    while cur < c {
-        let y = from + cur;
-        if lookup::dead(k, m, y) {
-            cur = tails::next(w, a, cur);
+    let mut left = n;
+    let mut x = s;
+    let mut y = s;
+    while 1 < left {
+        if dead_leads(w, a, k, c, s, from, x) {
+            if dead_trails(w, a, k, c, s, from, y) {
+                x = tails::next(w, a, x);
+                y = tails::prev(w, a, y);
+                left = left - 2;
+            } else {
+                return false;
+            }
         } else {
             return false;
         }
     }
-    true
+    if left == 0 {
+        return tails::joins(w, a, x, y);
+    }
+    if dead_leads(w, a, k, c, s, from, x) {
+        let z = tails::next(w, a, x);
+        tails::joins(w, a, z, y)
+    } else {
+        false
+    }
 }
 
 // Whether the places of the free slots are dead.
@@ -43,7 +93,8 @@ fn free_dead(area: &[u64], c: usize) -> bool
     let e = 24 * c + 64;
     let a = 3 + 3 * c;
     let s = c + 2;
-    ring_dead(&area[43..b], a, &area[l..e], c, s, 0)
+    let n = area::resident_part::count(area, c, 2);
+    ring_dead(&area[43..b], a, &area[l..e], c, s, 0, n)
 }
 
 // Whether the places of the spare cells of a ghost list are dead; `from` is the place of its first cell.
@@ -56,7 +107,9 @@ fn spare_dead(area: &[u64], c: usize, i: usize, from: usize) -> bool
     let l = 9 * c + 62;
     let e = 24 * c + 64;
     let s = c + 1;
-    ring_dead(&area[a..b], 1, &area[l..e], c, s, from)
+    let n = area::ghost_parts::count(area, c, i);
+    let m = c - n;
+    ring_dead(&area[a..b], 1, &area[l..e], c, s, from, m)
 }
 
 // Whether the words of one part are what they have to be.
@@ -181,15 +234,15 @@ fn check_sums(area: &[u64], kind: u64, c: usize) -> bool
     live(area, c) <= 2 * c + 1
 }
 
-// The parts together.
+// The parts together. The lookup comes last: nothing then has to be kept over the loop that takes the longest.
 fn check_parts(area: &[u64], kind: u64, c: usize) -> bool
     requires { ⌜ Fits c (now area) ⌝ }
     ensures { λ r. ⌜ r ≡ partsTest kind c (partsOf c (now (area .entry))) ⌝ }
 {
     if check_lists(area, c) {
-        if check_held(area, c) {
-            if check_dead(area, c) {
-                check_sums(area, kind, c)
+        if check_dead(area, c) {
+            if check_sums(area, kind, c) {
+                check_held(area, c)
             } else {
                 false
             }

@@ -3,9 +3,8 @@
 ghost use mathlib.Core.Path.{_≡_};
 ghost use Rattle.cells.specs.Cells.{In, nextOf, prevOf, withPrev, CanLink};
 ghost use Rattle.rings.specs.Rings.{inserted, detached, fronted, ended, replaced, emptied, filled, CanInsert, CanDetach, CanFront, CanEnd, CanReplace, CanFill};
-ghost use Rattle.rings.specs.Walks.{countOf, ringTest, CanWalk};
+ghost use Rattle.rings.specs.Walks.{joined, ringTest, CanWalk};
 ghost use Rattle.tails.specs.Tails.{tailOf, withTail, Tail};
-use rings::Walk;
 
 // The cell after e.
 pub fn next(w: &[u64], a: usize, e: usize) -> usize
@@ -87,18 +86,18 @@ pub fn fill(w: &mut [u64], a: usize, m: usize, s: usize)
     rings::fill(&mut w[a..], m, s);
 }
 
-// How many members the ring of s has, at most `most`, for any words.
-pub fn count(w: &[u64], a: usize, m: usize, s: usize, most: usize) -> Walk
-    requires { ⌜ Tail (now w) a (CanWalk (tailOf a (now w)) m s) ⌝ }
-    ensures { λ r. ⌜ r ≡ countOf (tailOf a (now (w .entry))) m s most ⌝ }
-{
-    rings::count(&w[a..], m, s, most)
-}
-
 // Whether the ring of s has exactly n members, for any words.
 pub fn check(w: &[u64], a: usize, m: usize, s: usize, n: usize) -> bool
     requires { ⌜ Tail (now w) a (CanWalk (tailOf a (now w)) m s) ⌝ }
     ensures { λ r. ⌜ r ≡ ringTest (tailOf a (now (w .entry))) m s n ⌝ }
 {
     rings::check(&w[a..], m, s, n)
+}
+
+// Whether y stands after x, by both links.
+pub fn joins(w: &[u64], a: usize, x: usize, y: usize) -> bool
+    requires { ⌜ Tail (now w) a (In (tailOf a (now w)) x × In (tailOf a (now w)) y) ⌝ }
+    ensures { λ r. ⌜ r ≡ joined (tailOf a (now (w .entry))) x y ⌝ }
+{
+    rings::joins(&w[a..], x, y)
 }

@@ -66,6 +66,8 @@ pub enum Pattern {
     Zipf,
     /// Round and round over a quarter more pages than frames.
     Loop,
+    /// The same over one page more than frames: the next page is the one put out last.
+    Tight,
     /// Ever new pages, and between them a few that come again.
     Scan,
     /// As zipf, in strides of 64.
@@ -76,7 +78,7 @@ pub enum Pattern {
     Shifting,
 }
 
-pub const PATTERNS: [Pattern; 7] = [Pattern::Uniform, Pattern::Zipf, Pattern::Loop, Pattern::Scan, Pattern::Stride64, Pattern::Huge, Pattern::Shifting];
+pub const PATTERNS: [Pattern; 8] = [Pattern::Uniform, Pattern::Zipf, Pattern::Loop, Pattern::Tight, Pattern::Scan, Pattern::Stride64, Pattern::Huge, Pattern::Shifting];
 
 struct Pages {
     pattern: Pattern,
@@ -95,13 +97,14 @@ impl Pages {
         let i = self.accesses;
         self.accesses += 1;
         let pattern = match self.pattern {
-            Pattern::Shifting => PATTERNS[(i / (3 * self.c + 10) % 5) as usize],
+            Pattern::Shifting => PATTERNS[(i / (self.c + 10) % 6) as usize],
             other => other,
         };
         let span = 2 * self.c + 3;
         match pattern {
             Pattern::Uniform => random.below(span),
             Pattern::Loop => i % (self.c + self.c / 4 + 2),
+            Pattern::Tight => i % (self.c + 1),
             Pattern::Scan if random.below(3) == 0 => random.below(self.c / 2 + 1),
             Pattern::Scan => self.c + i,
             Pattern::Stride64 => 64 * self.zipf.number(random),
@@ -112,19 +115,35 @@ impl Pages {
     }
 }
 
-/// A run of `count` operations or some more. With `paired` a page is asked for and then inserted, as a recorded trace does; else calls are mixed.
-pub fn long_run(random: &mut Random, pattern: Pattern, c: usize, count: usize, paired: bool) -> Vec<Operation> {
+/// What is done with a page that was chosen.
+#[derive(Clone, Copy, Debug, PartialEq, Eq)]
+pub enum Style {
+    /// Any call.
+    Mixed,
+    /// It is asked for and then inserted, as a recorded trace does.
+    Asked,
+    /// It is inserted: victims come from T1, and the target rises where pages come again.
+    Once,
+    /// It is inserted and then asked for: victims come from T2, and the target falls.
+    Twice,
+}
+
+pub const STYLES: [Style; 4] = [Style::Mixed, Style::Asked, Style::Once, Style::Twice];
+
+/// A run of `count` accesses of one or two operations each. Other styles than the mixed one have a mixed call now and then, but not the tight loop, which a removal would break.
+pub fn long_run(random: &mut Random, pattern: Pattern, c: usize, count: usize, style: Style) -> Vec<Operation> {
     let mut pages = Pages::new(pattern, c);
-    let mut operations = Vec::with_capacity(count + 1);
+    let mut operations = vec![];
     let mut inserts = 0;
-    while operations.len() < count {
+    for _ in 0..count {
         let x = pages.page(random);
         let f = if pattern == Pattern::Huge { random.next() as u32 } else { inserts };
         inserts += 1;
         let dice = random.below(1000);
-        if paired && dice < 960 {
-            operations.push(Operation::Get(x));
+        if style != Style::Mixed && (dice < 960 || pattern == Pattern::Tight) {
+            operations.extend((style == Style::Asked).then_some(Operation::Get(x)));
             operations.push(Operation::Insert(x, f));
+            operations.extend((style == Style::Twice).then_some(Operation::Get(x)));
             continue;
         }
         operations.push(match dice {
@@ -143,8 +162,8 @@ pub fn long_run(random: &mut Random, pattern: Pattern, c: usize, count: usize, p
 pub fn short_run(random: &mut Random, c: usize, most: u64) -> Vec<Operation> {
     let pattern = random.choice(&PATTERNS);
     let count = random.below(most) as usize;
-    let paired = random.below(4) == 0;
-    long_run(random, pattern, c, count, paired)
+    let style = random.choice(&[Style::Mixed, Style::Mixed, Style::Asked, Style::Once, Style::Twice]);
+    long_run(random, pattern, c, count, style)
 }
 
 /// Bytes that are no number of at most `most` bytes, or barely one.
@@ -211,6 +230,41 @@ pub fn heads(most: usize) -> Vec<Vec<u8>> {
             found.push(input(kind, c, &operations));
             found.push(input(kind, c, &[]));
         }
+    }
+    found
+}
+
+/// Numbers at the edges of their form, one at a time in each place where a number stands, with a call after it.
+pub fn edges() -> Vec<Vec<u8>> {
+    // of `most` bytes at most, the last being at most `limit`
+    let numbers = |most: usize, limit: u8| {
+        let mut found = vec![vec![], vec![0], vec![127], vec![128], vec![128, 0], vec![128, 1], vec![255, 0], vec![255, 127]];
+        for first in [128, 255] {
+            let full = vec![first; most - 1];
+            found.push(full.clone());
+            for last in [0, 1, limit, limit + 1, 2 * limit + 1, 127, 128, 128 + limit] {
+                found.push(full.iter().copied().chain([last]).collect());
+            }
+            found.push(full.iter().copied().chain([128, 0]).collect());
+        }
+        found
+    };
+    let mut found = vec![];
+    for (i, page) in numbers(10, 1).into_iter().enumerate() {
+        for code in [1, 2, 3, 5] {
+            let mut out = input(KINDS[i % 2], 2, &[Operation::Insert(1, 2)]);
+            out.push(code);
+            out.extend(&page);
+            out.extend([9, 1, 1]);
+            found.push(out);
+        }
+    }
+    for (i, frame) in numbers(5, 15).into_iter().enumerate() {
+        let mut out = input(KINDS[i % 2], 2, &[Operation::Insert(1, 2)]);
+        out.extend([2, 3]);
+        out.extend(&frame);
+        out.extend([1, 3]);
+        found.push(out);
     }
     found
 }

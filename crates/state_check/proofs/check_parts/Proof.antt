@@ -6,14 +6,14 @@ use Rattle.state_check.proofs.check_parts.Tie as tie
 check-lists-requires : tie.Need-check-lists-requires
 check-lists-requires c κs = search partLaws
 
-check-held-requires : tie.Need-check-held-requires
-check-held-requires c κs = search partLaws
-
 check-dead-requires : tie.Need-check-dead-requires
 check-dead-requires c κs = search partLaws
 
 check-sums-requires : tie.Need-check-sums-requires
 check-sums-requires c κs = search partLaws
+
+check-held-requires : tie.Need-check-held-requires
+check-held-requires c κs = search partLaws
 
 returns : tie.Need-returns
 returns c = search partLaws
@@ -32,9 +32,9 @@ check-parts-spec =
     tie.close
     (tie.spec
     check-lists-requires
-    check-held-requires
     check-dead-requires
     check-sums-requires
+    check-held-requires
     returns
     returns-2
     returns-3

@@ -32,6 +32,9 @@ add-a c = search laws
 add-s : tie.Need-add-s
 add-s c = search laws
 
+count-requires : tie.Need-count-requires
+count-requires c κs = search laws
+
 sub-ring-dead : tie.Need-sub-ring-dead
 sub-ring-dead c = search laws
 
@@ -74,6 +77,7 @@ free-dead-spec =
     mul-a
     add-a
     add-s
+    count-requires
     sub-ring-dead
     part-ring-dead-start
     part-ring-dead-end

@@ -1,34 +1,31 @@
--- `state_check::ring_dead` meets its contract. The loop's invariant: the walk stands on the ring, and the test of what is left is the test of all. The measure is what is left. Assumes nothing.
-use lib.ListN.{length}
-use Rattle.rings.specs.Rings.{membersFrom}
-use Rattle.tails.specs.Tails.{tailOf}
-use Rattle.state_check.proofs.Walking.{DeadsLeft, laws}
+-- `state_check::ring_dead` meets its contract. The loop's invariant: the test of what lies between x and y is the whole test. The measure is how many members are to come. Assumes nothing.
+use Rattle.state_check.proofs.Walking.{DeadsMet, deads-end, deads-prev, deads-within, deads-last, deads-there, laws}
 use Rattle.state_check.proofs.ring_dead.Statement.{statement}
 use Rattle.state_check.proofs.ring_dead.Tie as tie
 
 abbrev Inv-loop : tie.InvT-loop
-Inv-loop w a k c s from m cur₀ cur = DeadsLeft w a k c s from cur
+Inv-loop w a k c s from n left₀ x₀ y₀ left x y = DeadsMet w a k c s from left x y
 
 abbrev μ-loop : tie.MeasureT-loop
-μ-loop w a k c s from m cur₀ cur = length (membersFrom (tailOf a w) c cur)
-
-mul-m : tie.Need-mul-m Inv-loop μ-loop
-mul-m c = search laws
-
-next-requires : tie.Need-next-requires Inv-loop μ-loop
-next-requires c κs = search laws
+μ-loop w a k c s from n left₀ x₀ y₀ left x y = left
 
 loop-holds : tie.Need-loop-holds Inv-loop μ-loop
 loop-holds c = search laws
 
-add-y : tie.Need-add-y Inv-loop μ-loop
-add-y c = search laws
+dead-leads-requires : tie.Need-dead-leads-requires Inv-loop μ-loop
+dead-leads-requires c κs = search laws
 
-dead-requires : tie.Need-dead-requires Inv-loop μ-loop
-dead-requires c κs = search laws
+dead-trails-requires : tie.Need-dead-trails-requires Inv-loop μ-loop
+dead-trails-requires c κs = search (deads-end)
 
-next-requires-2 : tie.Need-next-requires-2 Inv-loop μ-loop
-next-requires-2 c κs = search laws
+next-requires : tie.Need-next-requires Inv-loop μ-loop
+next-requires c κs = search laws
+
+prev-requires : tie.Need-prev-requires Inv-loop μ-loop
+prev-requires c κs = search (deads-prev)
+
+sub-left : tie.Need-sub-left Inv-loop μ-loop
+sub-left c = search laws
 
 loop-less : tie.Need-loop-less Inv-loop μ-loop
 loop-less c = search laws
@@ -42,19 +39,47 @@ returns c = search laws
 returns-2 : tie.Need-returns-2 Inv-loop μ-loop
 returns-2 c = search laws
 
+joins-requires : tie.Need-joins-requires Inv-loop μ-loop
+joins-requires c κs = search laws
+
+returns-3 : tie.Need-returns-3 Inv-loop μ-loop
+returns-3 c = search laws
+
+dead-leads-requires-2 : tie.Need-dead-leads-requires-2 Inv-loop μ-loop
+dead-leads-requires-2 c κs = search laws
+
+next-requires-2 : tie.Need-next-requires-2 Inv-loop μ-loop
+next-requires-2 c κs = search laws
+
+joins-requires-2 : tie.Need-joins-requires-2 Inv-loop μ-loop
+joins-requires-2 c κs = record { within = search (deads-within); can = (search (deads-last), search (deads-there)) }
+
+returns-4 : tie.Need-returns-4 Inv-loop μ-loop
+returns-4 c = search laws
+
+returns-5 : tie.Need-returns-5 Inv-loop μ-loop
+returns-5 c = search laws
+
 pub ring-dead-spec : {M : Type 1} → statement M
 ring-dead-spec =
     tie.close
     (tie.spec
     Inv-loop
     μ-loop
-    mul-m
-    next-requires
     loop-holds
-    add-y
-    dead-requires
-    next-requires-2
+    dead-leads-requires
+    dead-trails-requires
+    next-requires
+    prev-requires
+    sub-left
     loop-less
     loop-again
     returns
-    returns-2)
+    returns-2
+    joins-requires
+    returns-3
+    dead-leads-requires-2
+    next-requires-2
+    joins-requires-2
+    returns-4
+    returns-5)

@@ -1,7 +1,8 @@
 -- `state_check::spare_dead` meets its contract. Assumes nothing.
 use Rattle.area.specs.Part.{part}
 use Rattle.area.specs.Area.{ghostsIn, lookupIn}
-use Rattle.state_check.proofs.Cases.{laws, spare-asks, spare-is}
+use borrow.Author.Needs.{needs}
+use Rattle.state_check.proofs.Cases.{laws, spare-asks, spare-is, spare-less}
 use Rattle.state_check.proofs.spare_dead.Statement.{statement}
 use Rattle.state_check.proofs.spare_dead.Tie as tie
 
@@ -31,6 +32,12 @@ add-e c = search laws
 
 add-s : tie.Need-add-s
 add-s c = search laws
+
+count-requires : tie.Need-count-requires
+count-requires c κs = search laws
+
+sub-m : tie.Need-sub-m
+sub-m c = search (spare-less, needs)
 
 mul-ring-dead : tie.Need-mul-ring-dead
 mul-ring-dead c = search laws
@@ -77,6 +84,8 @@ spare-dead-spec =
     mul-e
     add-e
     add-s
+    count-requires
+    sub-m
     mul-ring-dead
     sub-ring-dead
     part-ring-dead-start

@@ -3,7 +3,7 @@
 //! nowhere else. Each of the two is held against the list model with its own rule for the step, call by call, so that the step is the only rule in which they differ.
 use compare::agree::Pair;
 use compare::calls::{Answer, Cache, Called};
-use compare::cases::{long_run, PATTERNS};
+use compare::cases::{long_run, PATTERNS, STYLES};
 use compare::random::Random;
 use compare::rust::Side;
 use compare::state::State;
@@ -185,10 +185,10 @@ fn random_runs(seed: u64, count: u64) {
         let most = random.choice(&[4, 16, 64, 256]);
         let c = 1 + random.below(most) as usize;
         let pattern = random.choice(&PATTERNS);
-        let paired = random.below(2) == 0;
+        let style = random.choice(&STYLES);
         let mut both = Both::new(c);
         let mut once = false;
-        for operation in long_run(&mut random, pattern, c, 40 + 6 * c, paired) {
+        for operation in long_run(&mut random, pattern, c, 40 + 6 * c, style) {
             once |= both.call(operation).2 != Differ::Nowhere;
             calls += 1;
         }

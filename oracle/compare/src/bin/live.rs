@@ -4,7 +4,7 @@
 //! printed, and the status is 1.
 use compare::agree::{replay, states};
 use compare::calls::{ARC, CAR};
-use compare::cases::{damaged, fitting, heads, input, long_run, short_run, KINDS, PATTERNS};
+use compare::cases::{damaged, edges, fitting, heads, input, long_run, short_run, KINDS, PATTERNS, STYLES};
 use compare::program::{head, Case, DIGEST, REPLAY_MOST, STATES_MOST, WHOLE};
 use compare::random::Random;
 use compare::rust::Side;
@@ -93,38 +93,85 @@ fn first_difference(found: &[u8], wanted: &str) -> usize {
 /// operations could show it.
 const ALL_PREFIXES: usize = 300;
 
-/// Says where a program and the excerpts first differ on an input, and stops. `each` is the number of lines for an operation.
-fn differs(program: &Program, bytes: &[u8], most: usize, each: usize, output: impl Fn(&[u8]) -> Vec<u8>, right: impl Fn(&[u8]) -> String) -> ! {
-    let ends = prefixes(bytes, most);
-    let last = (first_difference(&output(bytes), &right(bytes)) / each + 1).min(ends.len() - 1);
-    let from = if last > ALL_PREFIXES { last } else { 0 };
-    let mut shown = None;
-    for &end in &ends[from..] {
-        let (found, wanted) = (output(&bytes[..end]), right(&bytes[..end]));
-        if found != wanted.as_bytes() {
-            shown = Some((end, found, wanted));
-            break;
-        }
+/// A line, or its start where it is long.
+fn shown(text: &str, line: usize) -> String {
+    let line = text.lines().nth(line).unwrap_or("(none)");
+    match line.char_indices().nth(400) {
+        Some((end, _)) => format!("{} ..", &line[..end]),
+        None => line.to_string(),
     }
-    let Some((end, found, wanted)) = shown else {
+}
+
+/// Prints the first line in which two texts differ, and which word of it where it has many.
+fn print_difference(name: &str, found: &[u8], wanted: &str) {
+    let line = first_difference(found, wanted);
+    let found = String::from_utf8_lossy(found).into_owned();
+    println!("  the first line that differs\n    {name}: {}\n    the Rust: {}", shown(&found, line), shown(wanted, line));
+    let words = |text: &str| text.lines().nth(line).unwrap_or("").split(' ').map(String::from).collect::<Vec<_>>();
+    let (a, b) = (words(&found), words(wanted));
+    let word = a.iter().zip(&b).take_while(|(a, b)| a == b).count();
+    println!("    at word {word} of it, from 0: {} against {}", a.get(word).map_or("(none)", |w| w), b.get(word).map_or("(none)", |w| w));
+}
+
+/// What a program writes on an input, and what the Rust does, in a mode of `states`.
+trait Sides {
+    fn found(&self, mode: u8, bytes: &[u8]) -> Vec<u8>;
+    fn wanted(&self, mode: u8, bytes: &[u8]) -> String;
+}
+
+/// Says where a program and the excerpts first differ on an input, and stops. `each` is the number of lines for an operation.
+fn differs(program: &Program, sides: &dyn Sides, mode: u8, bytes: &[u8], most: usize, each: usize) -> ! {
+    let ends = prefixes(bytes, most);
+    let last = (first_difference(&sides.found(mode, bytes), &sides.wanted(mode, bytes)) / each + 1).min(ends.len() - 1);
+    let from = if last > ALL_PREFIXES { last } else { 0 };
+    let Some(&end) = ends[from..].iter().find(|&&end| sides.found(mode, &bytes[..end]) != sides.wanted(mode, &bytes[..end]).as_bytes()) else {
         println!("live: {} differs on several cases in one run, and on none of them alone", program.name);
         exit(1);
     };
     let prefix = &bytes[..end];
     println!("live: {} differs from the Rust; the shortest prefix that shows it:\n  bytes {}", program.name, hex(prefix));
     if let Ok(made) = head(prefix, most) {
-        println!("  {} at capacity {}", if made.kind == 1 { "ARC" } else { "CAR" }, made.c);
+        println!("  {} at capacity {}", if made.kind == ARC { "ARC" } else { "CAR" }, made.c);
         let mut at = made.at;
         while let Next::Operation(operation, after) = next(prefix, at) {
             println!("    {operation:?}");
             at = after;
         }
     }
-    let line = first_difference(&found, &wanted);
-    let found = String::from_utf8_lossy(&found).into_owned();
-    let (a, b) = (found.lines().nth(line).unwrap_or("(none)"), wanted.lines().nth(line).unwrap_or("(none)"));
-    println!("  the first line that differs\n    {}: {a}\n    the Rust: {b}", program.name);
+    // with whole states, which say more than a digest
+    let (found, wanted) = (sides.found(WHOLE, prefix), sides.wanted(WHOLE, prefix));
+    if found != wanted.as_bytes() {
+        print_difference(program.name, &found, &wanted);
+    } else {
+        print_difference(program.name, &sides.found(mode, prefix), &sides.wanted(mode, prefix));
+    }
     exit(1);
+}
+
+struct ByStates<'a>(&'a Program);
+
+impl Sides for ByStates<'_> {
+    fn found(&self, mode: u8, bytes: &[u8]) -> Vec<u8> {
+        let mut stdin = vec![];
+        Case { mode, input: bytes.to_vec() }.write(&mut stdin);
+        self.0.output(&stdin)
+    }
+
+    fn wanted(&self, mode: u8, bytes: &[u8]) -> String {
+        wanted(states(&Case { mode, input: bytes.to_vec() }), bytes).0
+    }
+}
+
+struct ByReplay<'a>(&'a Program);
+
+impl Sides for ByReplay<'_> {
+    fn found(&self, _mode: u8, bytes: &[u8]) -> Vec<u8> {
+        self.0.output(bytes)
+    }
+
+    fn wanted(&self, _mode: u8, bytes: &[u8]) -> String {
+        wanted(replay(bytes), bytes).0
+    }
 }
 
 fn run_states(program: &Program, cases: &[Case], figures: &mut Figures) {
@@ -132,18 +179,11 @@ fn run_states(program: &Program, cases: &[Case], figures: &mut Figures) {
     cases.iter().for_each(|case| case.write(&mut stdin));
     let found = program.output(&stdin);
     let mut rest = &found[..];
-    let alone = |mode: u8| {
-        move |bytes: &[u8]| {
-            let mut stdin = vec![];
-            Case { mode, input: bytes.to_vec() }.write(&mut stdin);
-            program.output(&stdin)
-        }
-    };
     for case in cases {
         let (text, calls) = wanted(states(case), &case.input);
         match rest.strip_prefix(text.as_bytes()) {
             Some(after) => rest = after,
-            None => differs(program, &case.input, STATES_MOST, 2, alone(case.mode), |bytes| wanted(states(&Case { mode: case.mode, input: bytes.to_vec() }), bytes).0),
+            None => differs(program, &ByStates(program), case.mode, &case.input, STATES_MOST, 2),
         }
         figures.cases += 1;
         figures.calls += calls;
@@ -160,7 +200,7 @@ fn run_states(program: &Program, cases: &[Case], figures: &mut Figures) {
 fn run_replay(program: &Program, bytes: &[u8], figures: &mut Figures) {
     let (text, calls) = wanted(replay(bytes), bytes);
     if program.output(bytes) != text.as_bytes() {
-        differs(program, bytes, REPLAY_MOST, 1, |prefix| program.output(prefix), |prefix| wanted(replay(prefix), prefix).0);
+        differs(program, &ByReplay(program), WHOLE, bytes, REPLAY_MOST, 1);
     }
     figures.replays += 1;
     figures.replay_calls += calls;
@@ -188,8 +228,8 @@ fn batch(seed: u64) -> Vec<Case> {
         let c = capacity(&mut random, size);
         let pattern = random.choice(&PATTERNS);
         let count = 300 + random.below(4 * c as u64 + 1);
-        let paired = random.below(2) == 0;
-        let operations = long_run(&mut random, pattern, c, count as usize, paired);
+        let style = random.choice(&STYLES);
+        let operations = long_run(&mut random, pattern, c, count as usize, style);
         cases.extend(KINDS.map(|kind| Case { mode: DIGEST, input: fitting(kind, c, &operations) }));
     }
     cases
@@ -221,13 +261,12 @@ fn main() {
     let (by_replay, by_states) = (Program::new("replay", "REPLAY"), Program::new("states", "STATES"));
     println!("live: {seconds} seconds, seed {seed}");
     let (began, mut figures, mut batches) = (Instant::now(), Figures::default(), 0);
-    for most in [REPLAY_MOST, STATES_MOST] {
-        for bytes in heads(most) {
-            run_replay(&by_replay, &bytes, &mut figures);
-        }
+    let fixed = |most| heads(most).into_iter().chain(edges());
+    for bytes in fixed(REPLAY_MOST) {
+        run_replay(&by_replay, &bytes, &mut figures);
     }
-    let all_heads: Vec<Case> = heads(STATES_MOST).into_iter().map(|input| Case { mode: WHOLE, input }).collect();
-    run_states(&by_states, &all_heads, &mut figures);
+    let fixed: Vec<Case> = fixed(STATES_MOST).map(|input| Case { mode: WHOLE, input }).collect();
+    run_states(&by_states, &fixed, &mut figures);
     if seconds >= TOURS_FROM {
         run_tours(&by_states, &mut figures);
     }

@@ -1,7 +1,7 @@
 //! vectors DIR: writes the stored cases, DIR/stdin, and what the excerpts answer, DIR/stdout. Every call is compared with the list model on the way. Seeds are fixed.
 use compare::agree::states;
 use compare::calls::{ARC, CAR};
-use compare::cases::{all_short, damaged, fitting, heads, input, long_run, short_run, Calls, Pattern, KINDS, PATTERNS};
+use compare::cases::{all_short, damaged, edges, fitting, heads, input, long_run, short_run, Calls, Pattern, Style, KINDS, PATTERNS, STYLES};
 use compare::program::{Case, DIGEST, STATES_MOST, WHOLE};
 use compare::random::Random;
 use compare::rust::Side;
@@ -23,7 +23,7 @@ fn short_cases(cases: &mut Vec<Case>) {
         (3, inserts, 6, 5),
         (1, gets, 4, 3),
         (2, gets, 5, 3),
-        (3, gets, 5, 4),
+        (3, gets, 5, 3),
         (2, removes, 4, 3),
         (3, removes, 4, 3),
         (1, all, 3, 2),
@@ -46,7 +46,7 @@ fn random_cases(cases: &mut Vec<Case>) {
 }
 
 fn damaged_cases(cases: &mut Vec<Case>) {
-    cases.extend(heads(STATES_MOST).into_iter().map(|input| Case { mode: DIGEST, input }));
+    cases.extend(heads(STATES_MOST).into_iter().chain(edges()).map(|input| Case { mode: DIGEST, input }));
     for seed in 1001..=1300 {
         let mut random = Random::new(seed);
         let c = random.choice(&[0, 1, 2, 3, 5]);
@@ -59,20 +59,23 @@ fn damaged_cases(cases: &mut Vec<Case>) {
 
 fn long_cases(cases: &mut Vec<Case>) {
     let mut seed = 2000;
-    let mut add = |pattern, c, count, paired| {
+    let mut add = |pattern, c, count, style| {
         seed += 1;
-        let operations = long_run(&mut Random::new(seed), pattern, c, count, paired);
+        let operations = long_run(&mut Random::new(seed), pattern, c, count, style);
         cases.extend(KINDS.map(|kind| Case { mode: DIGEST, input: fitting(kind, c, &operations) }));
     };
     for (i, pattern) in PATTERNS.into_iter().enumerate() {
-        add(pattern, 16, 400, i % 2 == 0);
-        add(pattern, 100, 800, i % 2 == 1);
+        add(pattern, 16, 200, STYLES[i % 4]);
+        let style = STYLES[(i + 2) % 4];
+        add(pattern, 100, if style == Style::Mixed { 900 } else { 400 }, style);
     }
-    add(Pattern::Shifting, 256, 2000, true);
-    add(Pattern::Stride64, 257, 2000, false);
-    add(Pattern::Zipf, 1000, 2400, true);
-    add(Pattern::Huge, 1023, 2400, true);
-    add(Pattern::Shifting, STATES_MOST, 6000, false);
+    add(Pattern::Shifting, 256, 800, Style::Asked);
+    add(Pattern::Stride64, 257, 1600, Style::Once);
+    add(Pattern::Loop, 700, 1400, Style::Twice);
+    add(Pattern::Tight, 1000, 1500, Style::Once);
+    add(Pattern::Huge, 1023, 2500, Style::Once);
+    add(Pattern::Uniform, STATES_MOST, 3000, Style::Once);
+    add(Pattern::Shifting, 600, 2500, Style::Once);
 }
 
 /// Every call from every state that calls reach, at the smallest capacities.

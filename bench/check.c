@@ -1,0 +1,112 @@
+/* check FILE..: for each area, nanoseconds of a plain sum over its words, of a sum word by word, of the state check and of `new`: medians over rounds, and
+ * the ratios to the plain sum, with the quartiles of the ratios of the rounds. In a round the four are timed one after the other.
+ * check once|twice|none WHAT FILE: one or two calls, or none, of sum, scalar, check or new, for an instruction count. */
+#include <stdint.h>
+#include <stdio.h>
+#include <stdlib.h>
+#include <string.h>
+#include <time.h>
+
+#include "timed.h"
+
+enum { ROUNDS = 301, WHATS = 4, MOST = 1 << 16 };
+static const char *const names[WHATS] = {"sum", "scalar", "check", "new"};
+static uint64_t area[MOST], fresh[MOST];
+static size_t words;
+
+/* One call; the answer has to be used, so that no call is left out. */
+static uint64_t call(int what)
+{
+    switch (what) {
+    case 0: return plain_sum(area, words);
+    case 1: return scalar_sum(area, words);
+    case 2: return timed_check(area, words, area[0]);
+    default: return timed_new(fresh, words, area[0], area[1]);
+    }
+}
+
+static int load(const char *name)
+{
+    FILE *in = fopen(name, "rb");
+    if (in == NULL)
+        return 0;
+    words = fread(area, 8, MOST, in);
+    fclose(in);
+    memcpy(fresh, area, words * 8);
+    if (words < 64 || timed_check(area, words, area[0]) != 1 || timed_new(fresh, words, area[0], area[1]) != 0 ||
+        timed_check(fresh, words, area[0]) != 1 || plain_sum(area, words) != scalar_sum(area, words)) {
+        printf("%s: the calls do not answer as they should\n", name);
+        return 0;
+    }
+    area[words - 1] ^= 1;
+    if (timed_check(area, words, area[0]) != 0) {
+        printf("%s: the check does not see a link that leads astray\n", name);
+        return 0;
+    }
+    area[words - 1] ^= 1;
+    return 1;
+}
+
+static double now(void)
+{
+    struct timespec t;
+    clock_gettime(CLOCK_PROCESS_CPUTIME_ID, &t);
+    return 1e9 * (double)t.tv_sec + (double)t.tv_nsec;
+}
+
+static int rising(const void *a, const void *b)
+{
+    double x = *(const double *)a, y = *(const double *)b;
+    return (x > y) - (x < y);
+}
+
+static void times(const char *name)
+{
+    static double took[WHATS][ROUNDS], ratio[ROUNDS];
+    const char *base = strrchr(name, '/');
+    int calls = 1 + (int)(200000 / words);
+    double median[WHATS];
+    uint64_t seen = 0;
+    for (int round = 0; round < ROUNDS; round++)
+        for (int what = 0; what < WHATS; what++) {
+            double began = now();
+            for (int i = 0; i < calls; i++)
+                seen += call(what);
+            took[what][round] = (now() - began) / calls;
+        }
+    printf("%s (%llu words, answers %llu)\n", base ? base + 1 : name, (unsigned long long)words, (unsigned long long)seen % 10);
+    for (int what = 0; what < WHATS; what++) {
+        static double sorted[ROUNDS];
+        for (int round = 0; round < ROUNDS; round++) {
+            sorted[round] = took[what][round];
+            ratio[round] = took[what][round] / took[0][round];
+        }
+        qsort(sorted, ROUNDS, sizeof *sorted, rising);
+        qsort(ratio, ROUNDS, sizeof *ratio, rising);
+        median[what] = sorted[ROUNDS / 2];
+        printf("    %-8s %9.0f ns  %6.2f of the sum (%.2f to %.2f)", names[what], median[what], median[what] / median[0], ratio[ROUNDS / 4], ratio[3 * ROUNDS / 4]);
+        if (what > 1)
+            printf("  %6.2f of the scalar sum", median[what] / median[1]);
+        printf("\n");
+    }
+}
+
+int main(int argc, char **argv)
+{
+    if (argc == 4 && (strcmp(argv[1], "none") == 0 || strcmp(argv[1], "once") == 0 || strcmp(argv[1], "twice") == 0)) {
+        uint64_t seen = 0;
+        if (!load(argv[3]))
+            return 1;
+        for (int what = 0; what < WHATS; what++)
+            if (strcmp(argv[2], names[what]) == 0)
+                for (int i = 0; i < (argv[1][0] == 'n' ? 0 : argv[1][0] == 'o' ? 1 : 2); i++)
+                    seen += call(what);
+        return seen == 12345;
+    }
+    for (int i = 1; i < argc; i++) {
+        if (!load(argv[i]))
+            return 1;
+        times(argv[i]);
+    }
+    return 0;
+}

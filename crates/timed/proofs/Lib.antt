@@ -1,0 +1,2 @@
+-- The laws of `timed`. Assumes nothing.
+pub mod Laws

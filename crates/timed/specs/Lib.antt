@@ -1,0 +1,2 @@
+-- The definitions that the contracts of `timed` cite. Assumes nothing.
+pub mod Numbers

@@ -1,0 +1,14 @@
+-- Answers as numbers, for C. Assumes nothing.
+use mathlib.Core.Bool.{Bool, cond}
+use Prim.Native.Nat.{ℕ}
+use Rattle.fresh.specs.declared.Made as declared
+use Rattle.fresh.specs.declared.Made.the-variants.{Made, Refused}
+
+-- whether the words pass
+abbrev pub passed : Bool → ℕ
+passed b = cond b 1 0
+
+-- what `new` answers: 0, or the number of the refusal
+abbrev pub refusal : declared.Made → ℕ
+refusal Made = 0
+refusal (Refused n) = n
