@@ -1,5 +1,6 @@
-// Text for the test programs: bytes, words and numbers in decimal are put into a lent buffer, which goes to standard output when little of it is
+// What the test programs read and write. Text: bytes, words and numbers in decimal are put into a lent buffer, which goes to standard output when little of it is
 // left. Each writer answers the position behind what it put. Nothing is asked of a position: past the buffer nothing is put.
+use libc::STDIN_FILENO;
 use libc::STDOUT_FILENO;
 
 // One byte.
@@ -72,4 +73,43 @@ pub fn room(out: &[u8], at: usize) -> usize {
         }
     }
     flush(out, at)
+}
+
+// Reads so many bytes of standard input to the start of a buffer; whether they were there.
+pub fn read(bytes: &mut [u8], n: usize) -> bool {
+    if n <= bytes.len() {
+        let got = io::read_full(STDIN_FILENO, &mut bytes[..n]);
+        return got >= n;
+    }
+    false
+}
+
+// A byte, and two of them as a number, the low one first; 0 past the buffer.
+pub fn byte_at(bytes: &[u8], i: usize) -> u8 {
+    if i < bytes.len() {
+        return bytes[i];
+    }
+    0
+}
+
+fn low_first(a: u8, b: u8) -> usize {
+    a as usize + 256 * (b as usize)
+}
+
+pub fn pair_at(bytes: &[u8], i: usize) -> usize {
+    if i < 65536 {
+        let a = byte_at(bytes, i);
+        let b = byte_at(bytes, i + 1);
+        return low_first(a, b);
+    }
+    0
+}
+
+// The sum, or 0 where 64 bits do not hold it.
+pub fn plus(a: u64, b: u64) -> u64 {
+    let most = u64::MAX - b;
+    if a <= most {
+        return a + b;
+    }
+    0
 }
