@@ -1,0 +1,2 @@
+-- The laws of `hostile`. Assumes nothing.
+pub mod Laws

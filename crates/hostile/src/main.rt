@@ -1,0 +1,248 @@
+// The test program `hostile`: areas of any words on standard input, each a count of words in two bytes and the words in eight bytes each, low
+// bytes first. On each area it writes a line: what `len` answers for ARC and for CAR, `3` where the area is refused and else `ok` and the
+// number. Where an area is refused, `get`, `insert`, `remove` and `clear` are called too: ` answered` is added where one of them is not refused,
+// and ` changed` where the area is no longer what was read. Areas and lines are made by tools/hostile_areas, from docs/LAYOUT.md alone.
+use answers::Cleared;
+use answers::Counted;
+use answers::Gone;
+use answers::Got;
+use answers::Inserted;
+use arc_core::ArcCore;
+use calls::Kind;
+use car_core::CarCore;
+ghost use mathlib.Core.Path.{_≡_};
+ghost use Prim.Native.Nat.{_<_};
+ghost use lib.ListN.{length};
+
+// Whether another area may follow, and the buffer's position.
+struct Turn {
+    at: usize,
+    more: bool,
+}
+
+// ---- words
+
+fn pair(bytes: &[u8], at: usize) -> u64 {
+    let n = telling::pair_at(bytes, at);
+    n as u64
+}
+
+fn half_at(bytes: &[u8], at: usize) -> u64
+    requires { ⌜ at < 131072 ⌝ }
+{
+    let low = pair(bytes, at);
+    let high = pair(bytes, at + 2);
+    telling::plus(low, (high % 65536) * 65536)
+}
+
+// Word i of those that were read.
+fn word_at(bytes: &[u8], i: usize) -> u64 {
+    if i < 8192 {
+        let at = 8 * i;
+        let low = half_at(bytes, at);
+        let high = half_at(bytes, at + 4);
+        return telling::plus(low, (high % 4294967296) * 4294967296);
+    }
+    0
+}
+
+fn set(area: &mut [u64], i: usize, w: u64) {
+    if i < area.len() {
+        area[i] = w;
+    }
+}
+
+// The words that were read into an area of as many.
+fn fill(area: &mut [u64], bytes: &[u8]) {
+    let mut i: usize = 0;
+    while i < area.len() {
+        let w = word_at(bytes, i);
+        set(area, i, w);
+        i += 1;
+    }
+}
+
+// Whether the area is what was read.
+fn unchanged(area: &[u64], bytes: &[u8]) -> bool {
+    let mut i: usize = 0;
+    while i < area.len() {
+        let w = word_at(bytes, i);
+        if area[i] != w {
+            return false;
+        }
+        i += 1;
+    }
+    true
+}
+
+// ---- the calls
+
+fn len(area: &[u64], kind: Kind) -> Counted {
+    match kind {
+        Kind::Arc => ArcCore::len(area),
+        Kind::Car => CarCore::len(area),
+    }
+}
+
+fn get(area: &mut [u64], kind: Kind) -> Got {
+    match kind {
+        Kind::Arc => ArcCore::get(area, 5),
+        Kind::Car => CarCore::get(area, 5),
+    }
+}
+
+fn get_refused(area: &mut [u64], kind: Kind) -> bool {
+    let r = get(area, kind);
+    if let Got::Refused = r { true } else { false }
+}
+
+fn insert(area: &mut [u64], kind: Kind) -> Inserted {
+    match kind {
+        Kind::Arc => ArcCore::insert(area, 5, 7),
+        Kind::Car => CarCore::insert(area, 5, 7),
+    }
+}
+
+fn insert_refused(area: &mut [u64], kind: Kind) -> bool {
+    let r = insert(area, kind);
+    if let Inserted::Refused = r {
+        true
+    } else {
+        false
+    }
+}
+
+fn remove(area: &mut [u64], kind: Kind) -> Gone {
+    match kind {
+        Kind::Arc => ArcCore::remove(area, 5),
+        Kind::Car => CarCore::remove(area, 5),
+    }
+}
+
+fn remove_refused(area: &mut [u64], kind: Kind) -> bool {
+    let r = remove(area, kind);
+    if let Gone::Refused = r { true } else { false }
+}
+
+fn clear(area: &mut [u64], kind: Kind) -> Cleared {
+    match kind {
+        Kind::Arc => ArcCore::clear(area),
+        Kind::Car => CarCore::clear(area),
+    }
+}
+
+fn clear_refused(area: &mut [u64], kind: Kind) -> bool {
+    let r = clear(area, kind);
+    if let Cleared::Refused = r {
+        true
+    } else {
+        false
+    }
+}
+
+// Whether each of the calls that change an area is refused.
+fn all_refused(area: &mut [u64], kind: Kind) -> bool {
+    if !get_refused(area, kind) {
+        return false;
+    }
+    if !insert_refused(area, kind) {
+        return false;
+    }
+    if !remove_refused(area, kind) {
+        return false;
+    }
+    clear_refused(area, kind)
+}
+
+// ---- the lines
+
+fn put_answered(area: &mut [u64], kind: Kind, out: &mut [u8], at: usize) -> usize {
+    if all_refused(area, kind) {
+        return at;
+    }
+    telling::word(out, at, b" answered")
+}
+
+fn put_changed(area: &[u64], bytes: &[u8], out: &mut [u8], at: usize) -> usize {
+    if unchanged(area, bytes) {
+        return at;
+    }
+    telling::word(out, at, b" changed")
+}
+
+fn put_refused(area: &mut [u64], kind: Kind, bytes: &[u8], out: &mut [u8], at: usize) -> usize {
+    let place = telling::word(out, at, b"3");
+    let answered = put_answered(area, kind, out, place);
+    put_changed(area, bytes, out, answered)
+}
+
+fn put_kind(area: &mut [u64], kind: Kind, bytes: &[u8], out: &mut [u8], at: usize) -> usize {
+    match len(area, kind) {
+        Counted::Number(n) => telling::field(out, at, b"ok ", n),
+        Counted::Refused => put_refused(area, kind, bytes, out, at),
+    }
+}
+
+fn put_area(area: &mut [u64], bytes: &[u8], out: &mut [u8], at: usize) -> usize {
+    fill(area, bytes);
+    let mut place = telling::room(out, at);
+    place = telling::word(out, place, b"arc ");
+    place = put_kind(area, Kind::Arc, bytes, out, place);
+    place = telling::word(out, place, b" car ");
+    place = put_kind(area, Kind::Car, bytes, out, place);
+    telling::byte(out, place, b'\n')
+}
+
+// ---- standard input
+
+// An area of n words.
+fn read_area(area: &mut [u64], bytes: &mut [u8], n: usize, out: &mut [u8], at: usize) -> Turn {
+    if n <= area.len() {
+        if n < 8192 {
+            if telling::read(bytes, 8 * n) {
+                let place = put_area(&mut area[..n], bytes, out, at);
+                return Turn {
+                    at: place,
+                    more: true,
+                };
+            }
+        }
+    }
+    Turn { at, more: false }
+}
+
+fn read_case(area: &mut [u64], bytes: &mut [u8], out: &mut [u8], at: usize) -> Turn {
+    if telling::read(bytes, 2) {
+        let n = telling::pair_at(bytes, 0);
+        return read_area(area, bytes, n, out, at);
+    }
+    Turn { at, more: false }
+}
+
+// A proved loop has to end, and nothing says that the input does: the turns are counted down, from a number that no run uses up.
+fn run(area: &mut [u64], bytes: &mut [u8], out: &mut [u8]) {
+    let mut at: usize = 0;
+    let mut turns = u64::MAX;
+    while turns > 0 {
+        let t = read_case(area, bytes, out, at);
+        at = t.at;
+        if !t.more {
+            telling::flush(out, at);
+            return;
+        }
+        turns -= 1;
+    }
+}
+
+fn words() -> [u64; 4096]
+    ensures { λ r. ⌜ 4096 ≡ length r ⌝ }
+{
+    [0; 4096]
+}
+
+fn main() {
+    let mut area = words();
+    let mut bytes = io::large_buffer();
+    let mut out = io::large_buffer();
+    run(&mut area, &mut bytes, &mut out);
+}

@@ -1,0 +1,2 @@
+-- The laws of `states`. Assumes nothing.
+pub mod Laws

@@ -1,0 +1,55 @@
+-- `states::tell_ring` asks for a capacity. The loop's invariant: the buffer keeps its length. The measure is the cells that are left. Assumes nothing.
+use mathlib.Core.Path.{_≡_}
+use lib.ListN.{length}
+use Rattle.states.proofs.Laws.{laws}
+use Rattle.states.proofs.tell_ring.Statement.{statement}
+use Rattle.states.proofs.tell_ring.Tie as tie
+
+abbrev Inv-loop : tie.InvT-loop
+Inv-loop area links sentinel n c cells out₀ told₀ cell₀ left₀ out told cell left = length out ≡ length out₀
+
+abbrev μ-loop : tie.MeasureT-loop
+μ-loop area links sentinel n c cells out₀ told₀ cell₀ left₀ out told cell left = left
+
+next-requires : tie.Need-next-requires Inv-loop μ-loop
+next-requires c κs = search laws
+
+loop-holds : tie.Need-loop-holds Inv-loop μ-loop
+loop-holds c = search laws
+
+tell-cell-requires : tie.Need-tell-cell-requires Inv-loop μ-loop
+tell-cell-requires c κs = search laws
+
+next-requires-2 : tie.Need-next-requires-2 Inv-loop μ-loop
+next-requires-2 c κs = search laws
+
+sub-left : tie.Need-sub-left Inv-loop μ-loop
+sub-left c = search laws
+
+loop-less : tie.Need-loop-less Inv-loop μ-loop
+loop-less c = search laws
+
+loop-again : tie.Need-loop-again Inv-loop μ-loop
+loop-again c = search laws
+
+same-length : tie.Need-same-length Inv-loop μ-loop
+same-length c = search laws
+
+returns : tie.Need-returns Inv-loop μ-loop
+returns c = search laws
+
+pub tell-ring-spec : {M : Type 1} → statement M
+tell-ring-spec =
+    tie.close
+    (tie.spec
+    Inv-loop
+    μ-loop
+    next-requires
+    loop-holds
+    tell-cell-requires
+    next-requires-2
+    sub-left
+    loop-less
+    loop-again
+    same-length
+    returns)

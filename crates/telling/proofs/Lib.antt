@@ -1,0 +1,2 @@
+-- The laws of `telling`. Assumes nothing.
+pub mod Laws
