@@ -1,2 +1,0 @@
--- The laws of pieces. Assumes nothing.
-pub mod Laws
