@@ -1,6 +1,7 @@
 # Sourced by the scripts here, after host/kit.sh: code for this machine as the toolchain compiles it.
 #   native_object OUT FLAG.. FILE   a C file by the kit's compiler, at -O3
 #   native_library CRATE OUT        what a library crate exports, as one object
+#   native_program CRATE OUT        a program, to be run on this machine
 # The kit compiles for x86-64. On another machine `native_library` keeps the LLVM module that `rattle` hands to its clang, and compiles that: only the triple, the
 # data layout and the attributes of x86 are changed. BENCH_WITH=module does the same on x86-64.
 level=(-ffunction-sections -fdata-sections -mllvm -trap-unreachable -mllvm -no-trap-after-noreturn --no-default-config -no-canonical-prefixes -fPIC -O3)
@@ -26,7 +27,13 @@ native_library() { # CRATE OUT
     fi
     (cd "$root" && rt check "$name") >"$made.log" 2>&1 || { cat "$made.log" >&2; return 1; }
     keep_module "$name" "$made.bc" >>"$made.log" 2>&1 || { cat "$made.log" >&2; return 1; }
-    "$tools/bin/clang" --target=x86_64-unknown-linux-gnu -S -emit-llvm -Xclang -disable-llvm-passes -x ir "$made.bc" -o "$made.ll"
+    native_module "$made.bc" "$made"
+}
+
+# A kept module as an object for this machine.
+native_module() { # MODULE OUT
+    local made=$2
+    "$tools/bin/clang" --target=x86_64-unknown-linux-gnu -S -emit-llvm -Xclang -disable-llvm-passes -x ir "$1" -o "$made.ll"
     if [ "$(uname -m)" = aarch64 ]; then
         sed -i -e 's/^target datalayout = .*/target datalayout = "e-m:e-p270:32:32-p271:32:32-p272:64:64-i8:8:32-i16:16:32-i64:64-i128:128-n32:64-S128-Fn32"/' \
             -e 's/^target triple = .*/target triple = "aarch64-unknown-linux-gnu"/' -e 's/ "target-cpu"="x86-64"//' -e 's/ "probe-stack"="inline-asm"//' "$made.ll"
@@ -34,9 +41,10 @@ native_library() { # CRATE OUT
     "$tools/bin/clang" "${target[@]}" "${level[@]}" -c -x ir "$made.ll" -o "$made"
 }
 
-# The crate is built as `rt staticlib` builds it, by a toolchain folder whose clang keeps the module.
+# The crate is built as `rt staticlib`, or `rt check` for a program, builds it, by a toolchain folder whose clang keeps the module.
 keep_module() { # CRATE OUT
-    local name=$1 made=$2 folder dep words=() status=0
+    local name=$1 made=$2 folder dep words=() status=0 from=lib kind=(--crate-type staticlib)
+    if [ -f "$root/crates/$name/src/main.rt" ]; then from=main kind=(); fi
     folder=$(mktemp -d)
     mkdir -p "$folder/bin" "$folder/kept"
     ln -s "$tools/lib" "$folder/lib"
@@ -54,10 +62,23 @@ CLANG
     for dep in $(sed 's/#.*//' "$root/crates.txt" | awk -F: -v n="$name" '$1 == n { print $2 }'); do
         if [ -d "$root/crates/$dep" ]; then words+=(--extern "$dep=$root/target/rlib/$dep.rlib"); else words+=(--extern "$dep=$own/rlib/$dep.rlib"); fi
     done
-    "$own/bin/rattle" build --crate-name "$name" "$root/crates/$name/src/lib.rt" --extern "std=$own/rlib/std.rlib" "${words[@]}" \
+    "$own/bin/rattle" build --crate-name "$name" "$root/crates/$name/src/$from.rt" --extern "std=$own/rlib/std.rlib" "${words[@]}" \
         -L dependency="$root/target/rlib" -L dependency="$own/rlib" --antt-project "$kit/logic/antt-project.json" --logic-built "$own/logic-built" \
-        --toolchain "$folder" --crate-type staticlib -o "$folder/lib.a" || status=1
+        --toolchain "$folder" ${kind[@]+"${kind[@]}"} -o "$folder/made" || status=1
     cp "$folder/kept/module.bc" "$made" || status=1
     rm -rf "$folder"
     return "$status"
+}
+
+# A program as it is run on this machine: on x86-64 the one that `rt check` links; elsewhere its module, with bench/arguments.c for the functions of the kit's C archive that it calls.
+native_program() { # CRATE OUT
+    local name=$1 made=$2
+    (cd "$root" && rt check "$name") >"$made.log" 2>&1 || { tail -20 "$made.log" >&2; return 1; }
+    if [ "$(uname -m)" = x86_64 ] && [ "${BENCH_WITH:-}" != module ]; then
+        cp "$root/target/bin/$name" "$made"
+        return
+    fi
+    keep_module "$name" "$made.bc" >>"$made.log" 2>&1 || { cat "$made.log" >&2; return 1; }
+    native_module "$made.bc" "$made.o"
+    "$compiler" -O2 -o "$made" "$made.o" "$root/bench/arguments.c"
 }

@@ -1,0 +1,34 @@
+-- What answers the needs of the program. Assumes nothing.
+use mathlib.Core.Path.{_≡_, sym}
+use mathlib.Core.List.{List}
+use Prim.Native.Nat.{ℕ, _≤_}
+use lib.ListN.{length, take}
+use lib.Seq.{length-take-le}
+use borrow.Author.Needs.{needs}
+use Rattle.calls.specs.declared.Kind.{Kind}
+use Rattle.calls.specs.Policy.{policyOf}
+use Rattle.calls.specs.Inner.{Good}
+use Rattle.opening.specs.Opening.{Opens}
+use Rattle.opening.specs.declared.Opened.{Opened}
+use Rattle.opening.specs.declared.Opened.the-variants.{Cache}
+use Rattle.batch.specs.Outcomes.{Finishes}
+use Rattle.batch.specs.declared.Tally.{Tally}
+use Rattle.batch.proofs.Passing.{opened}
+use Rattle.pace.specs.Ready.{Ready}
+
+pub prefix-length : (n : ℕ) (l : List ℕ) → n ≤ length l → n ≡ length (take n l)
+prefix-length n l h = sym (length-take-le n l h)
+
+pub asks-good : (k : Kind) (c : ℕ) (w : List ℕ) → Ready k c w → Good (policyOf k) c w
+unfolding Ready
+asks-good k c w r = r
+
+pub stays-ready : (k : Kind) (c : ℕ) (trace w v : List ℕ) (r : Tally) → Finishes (policyOf k) c trace w v r → Ready k c v
+unfolding Ready
+stays-ready k c trace w v r d = d .good
+
+pub opens-ready : (k : Kind) (n : ℕ) (o : Opened) (w : List ℕ) (c : ℕ) → n ≡ policyOf k .kind → Opens n w o → o ≡ Cache c → Ready k c w
+unfolding Ready
+opens-ready k n o w c e h q = opened k n o w e h c q
+
+pub ruleset laws = (prefix-length, asks-good, stays-ready, opens-ready, needs)

@@ -1,0 +1,2 @@
+-- The laws of `pace`. Assumes nothing.
+pub mod Laws

@@ -1,0 +1,2 @@
+-- The definition that the contracts of `pace` cite. Assumes nothing.
+pub mod Ready
