@@ -1,0 +1,2 @@
+-- The laws of `cases`. Assumes nothing.
+pub mod Laws
