@@ -1,0 +1,2 @@
+-- The laws of the example. Assumes nothing.
+pub mod Laws

@@ -1,0 +1,2 @@
+-- What the contracts of the example cite. Assumes nothing.
+pub mod Guests
