@@ -51,18 +51,16 @@ module _ (P : Policy) (c : ℕ) (w v : List ℕ) (op : Operation) where
   did-clear e d = made Clear Cleared (rw e refl) d
 
 -- ---- a peek leaves the area
-peeked : (P : Policy) → Asks P → (c : ℕ) (w : List ℕ) (op : Operation) (x : ℕ) (a : Answer) → op ≡ operation.Peek x → Good P c w → Says P (Peek x) c w a → Did P (callOf op) c w w a
-peeked P asks c w op x a e g s =
-    made P c w w op (Ask (Peek x)) a (rw e refl)
-    (record { good = g; state = sym (asks (Peek x) (stateOf P c w)); answer = s .answer; size = refl; rest = refl })
+kind-asks : (k : Kind) → Asks (policyOf k)
+kind-asks kinds.Arc = arc-asks
+kind-asks kinds.Car = car-asks
 
-pub arc-peeked : (c : ℕ) (w : List ℕ) (op : Operation) (x : ℕ) (r : Seen) → op ≡ operation.Peek x → Good arcPolicy c w → Says arcPolicy (Peek x) c w (seenIs r)
-    → Did arcPolicy (callOf op) c w w (replyIs (reply.Seen r))
-arc-peeked c w op x r e g s = peeked arcPolicy arc-asks c w op x (seenIs r) e g s
-
-pub car-peeked : (c : ℕ) (w : List ℕ) (op : Operation) (x : ℕ) (r : Seen) → op ≡ operation.Peek x → Good carPolicy c w → Says carPolicy (Peek x) c w (seenIs r)
-    → Did carPolicy (callOf op) c w w (replyIs (reply.Seen r))
-car-peeked c w op x r e g s = peeked carPolicy car-asks c w op x (seenIs r) e g s
+pub peeked : (k : Kind) (c : ℕ) (w : List ℕ) (op : Operation) (x : ℕ) (r : Seen) → op ≡ operation.Peek x → Good (policyOf k) c w → Says (policyOf k) (Peek x) c w (seenIs r)
+    → Did (policyOf k) (callOf op) c w w (replyIs (reply.Seen r))
+peeked k c w op x r e g s =
+    let P : Policy = policyOf k in
+    made P c w w op (Ask (Peek x)) (seenIs r) (rw e refl)
+    (record { good = g; state = sym (kind-asks k (Peek x) (stateOf P c w)); answer = s .answer; size = refl; rest = refl })
 
 -- ---- by the kind
 module _ (k : Kind) (c : ℕ) (w : List ℕ) where
@@ -78,4 +76,10 @@ module _ (k : Kind) (c : ℕ) (w : List ℕ) where
   pub car-did : (v : List ℕ) (call : Call) (a : Answer) → k ≡ kinds.Car → Did carPolicy call c w v a → Did (policyOf k) call c w v a
   car-did v call a e d = subst (λ (j : Kind). Did (policyOf j) call c w v a) (sym e) d
 
-pub ruleset laws = (did-get, did-insert, did-remove, did-clear, arc-peeked, car-peeked, arc-good, car-good, arc-did, car-did, needs)
+  pub arc-says : (q : Question) (a : Answer) → k ≡ kinds.Arc → Says arcPolicy q c w a → Says (policyOf k) q c w a
+  arc-says q a e s = subst (λ (j : Kind). Says (policyOf j) q c w a) (sym e) s
+
+  pub car-says : (q : Question) (a : Answer) → k ≡ kinds.Car → Says carPolicy q c w a → Says (policyOf k) q c w a
+  car-says q a e s = subst (λ (j : Kind). Says (policyOf j) q c w a) (sym e) s
+
+pub ruleset laws = (did-get, did-insert, did-remove, did-clear, peeked, arc-good, car-good, arc-did, car-did, arc-says, car-says, needs)

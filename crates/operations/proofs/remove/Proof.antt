@@ -1,0 +1,42 @@
+-- `operations::remove` meets its contract: the kind says which policy. Assumes nothing.
+use Rattle.operations.proofs.Laws.{laws}
+use Rattle.operations.proofs.remove.Statement.{statement}
+use Rattle.operations.proofs.remove.Tie as tie
+use Rattle.car.proofs.remove.Reads as remove-reads′
+
+enum-told : tie.Need-enum-told
+enum-told c = search laws
+
+remove-requires : tie.Need-remove-requires
+remove-requires c κs = search laws
+
+enum-told-2 : tie.Need-enum-told-2
+enum-told-2 c = search laws
+
+remove-requires-2 : tie.Need-remove-requires-2
+remove-requires-2 c κs = search laws
+
+same-length : tie.Need-same-length
+same-length c = search laws
+
+returns : tie.Need-returns
+returns c = search laws
+
+same-length-2 : tie.Need-same-length-2
+same-length-2 c = search laws
+
+returns-2 : tie.Need-returns-2
+returns-2 c = search laws
+
+pub remove-spec : {M : Type 1} → statement M
+remove-spec =
+    tie.close
+    (tie.spec
+    enum-told
+    remove-requires
+    enum-told-2
+    remove-requires-2
+    same-length
+    returns
+    same-length-2
+    returns-2)
