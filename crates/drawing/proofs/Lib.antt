@@ -1,0 +1,2 @@
+-- The laws of `drawing`. Assumes nothing.
+pub mod Laws
