@@ -1,2 +1,1 @@
--- The laws of `drawing`. Assumes nothing.
-pub mod Laws
+-- The proofs of `drawing`. Assumes nothing.

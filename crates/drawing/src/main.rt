@@ -42,11 +42,10 @@ fn put_kth(area: &[u64], start: usize, name: &[u8], k: usize, out: &mut [u8], at
 // So many words of one kind.
 fn put_row(area: &[u64], start: usize, n: usize, name: &[u8], out: &mut [u8], at: usize) -> usize {
     let mut place = at;
-    let mut left = n;
-    while left > 0 {
-        let k = n - left;
+    let mut k: usize = 0;
+    while k < n {
         place = put_kth(area, start, name, k, out, place);
-        left -= 1;
+        k += 1;
     }
     place
 }
@@ -83,11 +82,10 @@ fn put_cells(
     at: usize,
 ) -> usize {
     let mut place = at;
-    let mut left = n;
-    while left > 0 {
-        let k = n - left;
+    let mut k: usize = 0;
+    while k < n {
         place = put_cell(area, start, after, before, k, out, place);
-        left -= 1;
+        k += 1;
     }
     place
 }
