@@ -1,16 +1,16 @@
--- What answers the needs of the example. In order: a page fault on one area; the words of one guest; a request; the loop; the check of all; a round. Assumes nothing.
+-- What answers the needs of the example. In order: a page fault on one area; the words of one guest; a request; the loop; the check of one guest, and of all; a round. Assumes nothing.
 use mathlib.Core.Path.{_≡_, refl, sym, subst, ap, _∙_}
 use mathlib.Core.Bool.{Bool, true, false, not, cond}
 use mathlib.Core.List.{List}
 use mathlib.Core.Option.{Option, some, none}
-use Prim.Native.Nat.{ℕ, zero, suc, _+_, _*_, _-_, _^_, _<_, _≤_}
+use Prim.Native.Nat.{ℕ, suc, _+_, _*_, _-_, _^_, _<_, _≤_}
 use native.Mathlib.Omega.{arith}
 use lib.Dec.{eqb, ltb}
 use lib.ListN.{length, getD, drop}
 use borrow.Author.Needs.{needs}
 use borrow.Author.Tests.{ltb-true, ltb-false, eqb-true, eqb-false, not-true, not-false, lt-ltb, le-ltb, ne-eqb}
 use Rattle.rules.specs.State.{resident}
-use Rattle.rules.specs.Calls.{Call, Get, Insert, Answer, Refused, Done}
+use Rattle.rules.specs.Calls.{Get, Insert, Answer, Refused, Done}
 use Rattle.rules.specs.Arc as arc
 use Rattle.rules.specs.Arc.{Arc, does}
 use Rattle.area.specs.Area.{capacityOf}
@@ -21,15 +21,16 @@ use Rattle.answers.specs.declared.Got.{Got}
 use Rattle.answers.specs.declared.Got.the-variants as got
 use Rattle.answers.specs.declared.Inserted.{Inserted}
 use Rattle.answers.specs.declared.Inserted.the-variants as inserted
-use Rattle.calls.specs.Policy.{arcPolicy, stateOf, reads}
+use Rattle.calls.specs.Policy.{arcPolicy, stateOf}
 use Rattle.calls.specs.Inner.{Good, Did}
+use Rattle.calls.specs.Outer.{Making}
 use Rattle.calls.proofs.Exact.{arc-exact}
 use Rattle.calls.proofs.Reading.{reads-none}
 use Rattle.opening.specs.Opening.{Opens}
 use Rattle.opening.specs.declared.Opened.{Opened}
 use Rattle.opening.specs.declared.Opened.the-variants as opened
 use Rattle.opening.proofs.Public.{opened-good}
-use Rattle.guests.specs.Guests.{Ready, held, hits, faulted, servedIs, Faulted, own, AllReady, FirstBad, Checks, Tells, Alone, Stepped, stateAfter, hitsAfter, Ran, Even, Fits}
+use Rattle.guests.specs.Guests.{Ready, held, hits, faulted, servedIs, Faulted, own, AllReady, FirstBad, Checks, Tells, Only, Started, Alone, Stepped, stateAfter, hitsAfter, Ran, Even, Fits}
 use Rattle.guests.specs.declared.Checked.{Checked}
 use Rattle.guests.specs.declared.Checked.the-variants as checked
 use Rattle.guests.specs.declared.Served.{Served}
@@ -40,7 +41,7 @@ pub good-at : (c : ℕ) (w : List ℕ) → Ready w → c ≡ capacityOf w → Go
 good-at c w r e = subst (λ (n : ℕ). Good arcPolicy n w) (sym e) r
 
 pub ready-at : (c : ℕ) (w : List ℕ) → Good arcPolicy c w → Ready w
-ready-at c w g = good-at (capacityOf w) w (subst (λ (n : ℕ). Good arcPolicy n w) (sym (g .stored .capacity)) g) refl
+ready-at c w g = subst (λ (n : ℕ). Good arcPolicy n w) (sym (g .stored .capacity)) g
 
 held-at : (c : ℕ) (w : List ℕ) → capacityOf w ≡ c → held w ≡ stateOf arcPolicy c w
 held-at c w e = ap (λ (n : ℕ). stateOf arcPolicy n w) e
@@ -95,26 +96,38 @@ inserted-no-hit inserted.None = refl
 inserted-no-hit inserted.Refused = refl
 
 -- ---- the words of one guest
+module _ (g : ℕ) (w u : List ℕ) (few : g < 6) (size : 9600 ≤ length w) (same : length u ≡ length (own g w)) where
+  abbrev after : List ℕ
+  after = splice (g * 1600) (g * 1600 + 1600) u w
+
+  width : length u ≡ g * 1600 + 1600 - g * 1600
+  width = same ∙ length-part (g * 1600) (g * 1600 + 1600) w (omega arith) (omega arith)
+
+  own-is : own g after ≡ u
+  own-is = part-splice (g * 1600) (g * 1600 + 1600) u w (omega arith) (omega arith) width
+
+  other-is : (i : ℕ) → (i ≡ g → ⊥) → (b : Bool) → ltb i g ≡ b → own i after ≡ own i w
+  other-is i n true s =
+      let k = ltb-true i g s in
+      part-below (g * 1600) (g * 1600 + 1600) u w (omega arith) (omega arith) width (i * 1600) (i * 1600 + 1600) (omega arith) (omega arith)
+  other-is i n false s =
+      let k = ltb-false i g s in
+      let o : g < i = omega (arith, n) in
+      part-above (g * 1600) (g * 1600 + 1600) u w (omega arith) (omega arith) width (i * 1600) (i * 1600 + 1600) (omega arith)
+
+  only : Only g w after
+  only =
+      record {
+        others = λ i h n. other-is i n (ltb i g) refl;
+        size = length-splice (g * 1600) (g * 1600 + 1600) u w (omega arith) (omega arith) width;
+        rest = drop-above (g * 1600) (g * 1600 + 1600) u w (omega arith) (omega arith) width 9600 (omega arith);
+      }
+
 pub alone : (g x f : ℕ) (w u : List ℕ) (a : Answer) → g < 6 → 9600 ≤ length w → Faulted x f (own g w) u a → Alone g x f w (splice (g * 1600) (g * 1600 + 1600) u w) a
-alone g x f w u a few size d =
-    let p = g * 1600 in
-    let q = g * 1600 + 1600 in
-    let l : length u ≡ q - p = d .size ∙ length-part p q w (omega arith) (omega arith) in
-    record {
-      served = rw (part-splice p q u w (omega arith) (omega arith) l) d;
-      others = λ i h n. by i h n (ltb i g) refl l;
-      size = length-splice p q u w (omega arith) (omega arith) l;
-      rest = drop-above p q u w (omega arith) (omega arith) l 9600 (omega arith);
-    }
-  where
-    by : (i : ℕ) → i < 6 → (i ≡ g → ⊥) → (b : Bool) → ltb i g ≡ b → length u ≡ g * 1600 + 1600 - g * 1600 → own i (splice (g * 1600) (g * 1600 + 1600) u w) ≡ own i w
-    by i h n true s l =
-        let k = ltb-true i g s in
-        part-below (g * 1600) (g * 1600 + 1600) u w (omega arith) (omega arith) l (i * 1600) (i * 1600 + 1600) (omega arith) (omega arith)
-    by i h n false s l =
-        let k = ltb-false i g s in
-        let o : g < i = omega (arith, n) in
-        part-above (g * 1600) (g * 1600 + 1600) u w (omega arith) (omega arith) l (i * 1600) (i * 1600 + 1600) (omega arith)
+alone g x f w u a few size d = record { served = rw (own-is g w u few size (d .size)) d; only = only g w u few size (d .size) }
+
+pub started : (g c : ℕ) (w u : List ℕ) (a : Answer) → g < 6 → 9600 ≤ length w → Making arcPolicy c (own g w) u a → Started g c w (splice (g * 1600) (g * 1600 + 1600) u w) a
+started g c w u a few size d = record { made = rw (own-is g w u few size (d .size)) d; only = only g w u few size (d .size) }
 
 -- ---- a request
 served-few : (s : Served) → hits (servedIs s) ≤ 1
@@ -130,21 +143,21 @@ hits-filled s r q = rw q (inserted-no-hit r)
 pub stepped : (g x f n : ℕ) (w v : List ℕ) (s : Served) → AllReady w → g < 6 → Alone g x f w v (servedIs s) → n ≡ hits (servedIs s) → Stepped g x f w v n
 stepped g x f n w v s all few d e =
     record {
-      ready = record { size = rw (d .size) (all .size); each = λ i h. ready-by i h (eqb g i) refl };
+      ready = record { size = rw (d .only .size) (all .size); each = λ i h. ready-by i h (eqb g i) refl };
       states = λ i h. state-by i h (eqb g i) refl;
       hits = rw (lt-ltb g 6 few) (e ∙ ap hits (d .served .answer));
       few = rw e (served-few s);
-      size = d .size;
-      rest = d .rest;
+      size = d .only .size;
+      rest = d .only .rest;
     }
   where
     ready-by : (i : ℕ) → i < 6 → (b : Bool) → eqb g i ≡ b → Ready (own i v)
     ready-by i h true q = rw (sym (eqb-true g i q)) (d .served .ready)
-    ready-by i h false q = rw (d .others i h (λ z. eqb-false g i q (sym z))) (all .each i h)
+    ready-by i h false q = rw (d .only .others i h (λ z. eqb-false g i q (sym z))) (all .each i h)
 
     state-by : (i : ℕ) → i < 6 → (b : Bool) → eqb g i ≡ b → held (own i v) ≡ cond b (faulted x f (held (own i w)) .state) (held (own i w))
     state-by i h true q = rw (sym (eqb-true g i q)) (d .served .state)
-    state-by i h false q = ap held (d .others i h (λ z. eqb-false g i q (sym z)))
+    state-by i h false q = ap held (d .only .others i h (λ z. eqb-false g i q (sym z)))
 
 pub skipped : (g x f : ℕ) (w : List ℕ) → AllReady w → 6 ≤ g → Stepped g x f w w 0
 skipped g x f w all many =

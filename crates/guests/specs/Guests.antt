@@ -15,6 +15,7 @@ use Rattle.area.specs.Part.{part}
 use Rattle.answers.specs.Answers.{insertedIs}
 use Rattle.calls.specs.Policy.{arcPolicy, stateOf, reads}
 use Rattle.calls.specs.Inner.{Good}
+use Rattle.calls.specs.Outer.{Making}
 use Rattle.guests.specs.declared.Served.{Served}
 use Rattle.guests.specs.declared.Served.the-variants as served
 use Rattle.guests.specs.declared.Checked.{Checked}
@@ -31,10 +32,11 @@ Ready w = Good arcPolicy (capacityOf w) w
 abbrev pub held : List ℕ → Arc
 held w = stateOf arcPolicy (capacityOf w) w
 
--- a page fault on the page x, by the rules: `get`, and where that is no hit, `insert` with the frame f
+-- how many hits an answer tells of: one or none
 abbrev pub hits : Answer → ℕ
 hits a = counted a .getHits
 
+-- a page fault on the page x, by the rules: `get`, and where that is no hit, `insert` with the frame f
 abbrev pub faulted : ℕ → ℕ → Arc → Done Arc
 faulted x f s = let d = does (Get x) s in cond (eqb (hits (d .answer)) 0) (does (Insert x f) (d .state)) d
 
@@ -72,12 +74,21 @@ pub record Tells (g : ℕ) (w : List ℕ) (b : Bool) : Type 0 where
   pub ready : b ≡ true → Ready (own g w)
   pub bad : b ≡ false → reads arcPolicy (own g w) ≡ none
 
--- THE CONTRACT of one fault of the guest g: its own area does what the rules say, and no word of any other guest changes, nor any past the six
-pub record Alone (g x f : ℕ) (w v : List ℕ) (a : Answer) : Type 0 where
-  pub served : Faulted x f (own g w) (own g v) a
+-- no word changes but those of the guest g
+pub record Only (g : ℕ) (w v : List ℕ) : Type 0 where
   pub others : (i : ℕ) → i < 6 → (i ≡ g → ⊥) → own i v ≡ own i w
   pub size : length v ≡ length w
   pub rest : drop 9600 v ≡ drop 9600 w
+
+-- THE CONTRACT of a new cache of c frames for the guest g
+pub record Started (g c : ℕ) (w v : List ℕ) (a : Answer) : Type 0 where
+  pub made : Making arcPolicy c (own g w) (own g v) a
+  pub only : Only g w v
+
+-- THE CONTRACT of one fault of the guest g: its own area does what the rules say, and no word of any other guest changes
+pub record Alone (g x f : ℕ) (w v : List ℕ) (a : Answer) : Type 0 where
+  pub served : Faulted x f (own g w) (own g v) a
+  pub only : Only g w v
 
 -- THE CONTRACT of one request: it moves the guest that it names, and counts as a hit or not; one that names none of the six does nothing
 pub record Stepped (g x f : ℕ) (w v : List ℕ) (n : ℕ) : Type 0 where

@@ -3,16 +3,19 @@
 //
 //     | guest 0 | guest 1 | guest 2 | guest 3 | guest 4 | guest 5 |
 //
-// Each area is made a cache once, by `ArcCore::new` on the guest's 1,600 words. A round may be handed any words, so it checks the six areas first,
-// once. From there on every call is an inner call of `arc`. An inner call asks that its area is well formed, and here a proof answers, not a check:
-// the check said so, and every inner call leaves it so. That a fault of one guest changes no word of another is the contract of `serve`.
+// Each area is made a cache once, by `start`. A round may be handed any words, so it checks the six areas first, once. From there on every call is
+// an inner call of `arc`. An inner call asks that its area is well formed, and here a proof answers, not a check: the check said so, and every inner
+// call leaves it so. That a fault of one guest changes no word of another is the contract of `serve`.
 use answers::Got;
 use answers::Inserted;
+use arc_core::ArcCore;
+use fresh::Made;
 use opening::Opened;
 ghost use mathlib.Core.Path.{_≡_};
 ghost use Prim.Native.Nat.{_<_, _≤_};
 ghost use lib.ListN.{length};
-ghost use Rattle.guests.specs.Guests.{hits as hitsOf, servedIs, Ready, Faulted, AllReady, Checks, Tells, Alone, Stepped, Even, Ran, Rounds};
+ghost use Rattle.calls.specs.Outer.{madeIs};
+ghost use Rattle.guests.specs.Guests.{hits as hitsOf, servedIs, Ready, Faulted, AllReady, Checks, Tells, Started, Alone, Stepped, Even, Ran, Rounds};
 
 // What a page fault comes to. Resident: the page is in this frame; the frame that was offered is still free. Filled: the page was not resident, and
 // `insert` tells what became of it. `New`: it is in the frame that was offered. `Out`: so it is, and another page went out of its frame: unmap that
@@ -33,6 +36,17 @@ pub enum Outcome {
     Hits(u64),
     Refused(usize),
     Misfit,
+}
+
+// An empty cache of so many frames for a guest, by the public call: `Made`; or `Refused(1)`, more than 1,024 frames; or `Refused(2)`, more than 64,
+// which 1,600 words do not hold. An inner call too: it asks for the words of six guests.
+pub fn start(words: &mut [u64], guest: usize, frames: u64) -> Made
+    requires { ⌜ (9600 ≤ length (now words)) × (guest < 6) ⌝ }
+    ensures { λ r. ⌜ Started guest frames (now (words .entry)) (now (words .exit)) (madeIs r) ⌝ }
+{
+    let a = guest * 1600;
+    let b = a + 1600;
+    ArcCore::new(&mut words[a..b], frames)
 }
 
 // A page fault on an area: look the page up, and where it is not resident, store it with the frame that was filled for it.
