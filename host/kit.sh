@@ -6,7 +6,7 @@
 #   with              cc or kit: the machine's own compiler, or the kit's compiler, linker, C library and, on Arm, emulator, which need no package
 # HOST_WITH=kit or HOST_WITH=cc chooses; else it is cc on x86-64 where there is one. CC names another compiler than cc or gcc.
 root=$(cd "$(dirname "${BASH_SOURCE[0]}")/.." && pwd -P)
-command -v rt >/dev/null || { echo "host: rt is not on the PATH" >&2; exit 2; }
+command -v rt >/dev/null || { echo "${0##*/}: rt is missing: install the Rattle kit and put its bin folder on the PATH" >&2; exit 2; }
 kit=${RATTLE_HOME:-$(cd "$(dirname "$(readlink -f "$(command -v rt)")")/.." && pwd -P)}
 own=$kit/on/$(uname -m)
 tools=$own/toolchain
@@ -27,7 +27,7 @@ fi
 
 RUN=()
 case $with in
-cc) compiler=$(find_cc) || { echo "host: no C compiler: set CC, or HOST_WITH=kit" >&2; exit 2; } ;;
+cc) compiler=$(find_cc) || { echo "${0##*/}: no C compiler: install one (Debian: apt-get install gcc), name one in CC, or set HOST_WITH=kit" >&2; exit 2; } ;;
 kit)
     compiler=$tools/bin/clang
     if [ -x "$tools/bin/qemu-x86_64" ]; then RUN=("$tools/bin/qemu-x86_64"); fi
