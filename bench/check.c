@@ -1,6 +1,6 @@
-/* check FILE..: for each area, nanoseconds of a plain sum over its words, of a sum word by word, of the state check and of `new`: medians over rounds, and
- * the ratios to the plain sum, with the quartiles of the ratios of the rounds. In a round the four are timed one after the other.
- * check once|twice|none WHAT FILE: one or two calls, or none, of sum, scalar, check or new, for an instruction count. */
+/* check FILE..: for each area, nanoseconds of a plain sum over its words, of a sum word by word, of the state check, of `new` and, on an area of ARC, of one
+ * public call, a get that hits: medians over rounds, and the ratios to the plain sum, with the quartiles of the ratios of the rounds. In a round they are timed one after
+ * the other. check once|twice|none WHAT FILE: one or two calls, or none, of sum, scalar, check, new or get, for an instruction count. */
 #include <stdint.h>
 #include <stdio.h>
 #include <stdlib.h>
@@ -9,10 +9,13 @@
 
 #include "timed.h"
 
-enum { ROUNDS = 301, WHATS = 4, MOST = 1 << 16 };
-static const char *const names[WHATS] = {"sum", "scalar", "check", "new"};
-static uint64_t area[MOST], fresh[MOST];
+enum { ROUNDS = 301, WHATS = 5, MOST = 1 << 16 };
+static const char *const names[WHATS] = {"sum", "scalar", "check", "new", "get"};
+static uint64_t area[MOST], fresh[MOST], used[MOST];
 static size_t words;
+
+/* What can be called on the area: the get is ARC's. */
+static int whats(void) { return area[0] == 1 ? WHATS : WHATS - 1; }
 
 /* One call; the answer has to be used, so that no call is left out. */
 static uint64_t call(int what)
@@ -21,7 +24,8 @@ static uint64_t call(int what)
     case 0: return plain_sum(area, words);
     case 1: return scalar_sum(area, words);
     case 2: return timed_check(area, words, area[0]);
-    default: return timed_new(fresh, words, area[0], area[1]);
+    case 3: return timed_new(fresh, words, area[0], area[1]);
+    default: return timed_get(used, words, used[9 * used[1] + 62]); /* the page of slot 0 (docs/LAYOUT.md) */
     }
 }
 
@@ -33,8 +37,9 @@ static int load(const char *name)
     words = fread(area, 8, MOST, in);
     fclose(in);
     memcpy(fresh, area, words * 8);
+    memcpy(used, area, words * 8);
     if (words < 64 || timed_check(area, words, area[0]) != 1 || timed_new(fresh, words, area[0], area[1]) != 0 ||
-        timed_check(fresh, words, area[0]) != 1 || plain_sum(area, words) != scalar_sum(area, words)) {
+        timed_check(fresh, words, area[0]) != 1 || (area[0] == 1 && call(4) >> 32 != 0) || plain_sum(area, words) != scalar_sum(area, words)) {
         printf("%s: the calls do not answer as they should\n", name);
         return 0;
     }
@@ -68,14 +73,14 @@ static void times(const char *name)
     double median[WHATS];
     uint64_t seen = 0;
     for (int round = 0; round < ROUNDS; round++)
-        for (int what = 0; what < WHATS; what++) {
+        for (int what = 0; what < whats(); what++) {
             double began = now();
             for (int i = 0; i < calls; i++)
                 seen += call(what);
             took[what][round] = (now() - began) / calls;
         }
     printf("%s (%llu words, answers %llu)\n", base ? base + 1 : name, (unsigned long long)words, (unsigned long long)seen % 10);
-    for (int what = 0; what < WHATS; what++) {
+    for (int what = 0; what < whats(); what++) {
         static double sorted[ROUNDS];
         for (int round = 0; round < ROUNDS; round++) {
             sorted[round] = took[what][round];

@@ -1,14 +1,22 @@
 -- The answers are the definitions'. Assumes nothing.
-use mathlib.Core.Path.{_≡_, sym, ap, _∙_}
+use mathlib.Core.Path.{_≡_, refl, sym, ap, subst, _∙_}
 use mathlib.Core.Bool.{Bool, true, false}
 use mathlib.Core.List.{List}
-use Prim.Native.Nat.{ℕ}
+use Prim.Native.Nat.{ℕ, _<_}
 use lib.ListN.{length}
 use borrow.Author.Needs.{needs}
+use borrow.Author.Tests.{lt-ltb}
+use Rattle.rules.specs.Calls as rules
+use Rattle.rules.specs.Calls.{Answer, Get}
+use Rattle.answers.specs.Answers.{gotIs}
+use Rattle.answers.specs.declared.Got as got
+use Rattle.answers.specs.declared.Got.the-variants.{Hit, Miss, Refused as NotGot}
+use Rattle.calls.specs.Policy.{arcPolicy}
+use Rattle.calls.specs.Outer.{Outcome}
 use Rattle.fresh.specs.declared.Made as declared
 use Rattle.fresh.specs.declared.Made.the-variants.{Made, Refused}
 use Rattle.fresh.specs.Fresh.{New, answerOf}
-use Rattle.timed.specs.Numbers.{passed, refusal}
+use Rattle.timed.specs.Numbers.{passed, refusal, gotAt}
 
 pub yes : (b t : Bool) → b ≡ true → b ≡ t → 1 ≡ passed t
 yes b t y e = ap passed (sym y ∙ e)
@@ -22,4 +30,17 @@ made kind c w v r e n = ap refusal (sym e ∙ n .answer)
 pub refused : (kind c n : ℕ) (w v : List ℕ) (r : declared.Made) → r ≡ Refused n → New kind c w v r → n ≡ refusal (answerOf c (length w))
 refused kind c n w v r e new = ap refusal (sym e ∙ new .answer)
 
-pub ruleset laws = (yes, no, made, refused, needs)
+-- ---- a get
+told : (x : ℕ) (w v : List ℕ) (a b : Answer) → a ≡ b → Outcome arcPolicy (Get x) w v a → Outcome arcPolicy (Get x) w v b
+told x w v a b e o = subst (λ (y : Answer). Outcome arcPolicy (Get x) w v y) e o
+
+pub hit : (x f : ℕ) (w v : List ℕ) (g : got.Got) → g ≡ Hit f → f < 4294967296 → Outcome arcPolicy (Get x) w v (gotIs g) → Outcome arcPolicy (Get x) w v (gotAt f)
+hit x f w v g e l o = told x w v (gotIs g) (gotAt f) (ap gotIs e ∙ sym (rw (lt-ltb f 4294967296 l) refl)) o
+
+pub missed : (x : ℕ) (w v : List ℕ) (g : got.Got) → g ≡ Miss → Outcome arcPolicy (Get x) w v (gotIs g) → Outcome arcPolicy (Get x) w v (gotAt 4294967296)
+missed x w v g e o = told x w v (gotIs g) (gotAt 4294967296) (ap gotIs e) o
+
+pub not-got : (x : ℕ) (w v : List ℕ) (g : got.Got) → g ≡ NotGot → Outcome arcPolicy (Get x) w v (gotIs g) → Outcome arcPolicy (Get x) w v (gotAt 4294967299)
+not-got x w v g e o = told x w v (gotIs g) (gotAt 4294967299) (ap gotIs e) o
+
+pub ruleset laws = (yes, no, made, refused, hit, missed, not-got, needs)

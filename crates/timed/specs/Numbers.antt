@@ -1,6 +1,9 @@
 -- Answers as numbers, for C. Assumes nothing.
 use mathlib.Core.Bool.{Bool, cond}
 use Prim.Native.Nat.{ℕ}
+use lib.Dec.{eqb, ltb}
+use Rattle.rules.specs.Calls as rules
+use Rattle.rules.specs.Calls.{Answer}
 use Rattle.fresh.specs.declared.Made as declared
 use Rattle.fresh.specs.declared.Made.the-variants.{Made, Refused}
 
@@ -12,3 +15,7 @@ passed b = cond b 1 0
 abbrev pub refusal : declared.Made → ℕ
 refusal Made = 0
 refusal (Refused n) = n
+
+-- what a get answers, by its number: a frame, a miss, or refusal 3
+abbrev pub gotAt : ℕ → Answer
+gotAt n = cond (ltb n 4294967296) (rules.Hit n) (cond (eqb n 4294967296) rules.Miss (rules.Refused 3))

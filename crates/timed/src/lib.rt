@@ -1,10 +1,15 @@
-// The calls that bench/check times, for a program in C: the state check and `new`, on the words of an area.
+// The calls that bench/check times, for a program in C: the state check, `new`, and one public call, on the words of an area.
+use answers::Got;
+use arc_core::ArcCore;
 use fresh::Made;
 ghost use mathlib.Core.Path.{_≡_};
 ghost use lib.ListN.{length};
+ghost use Rattle.rules.specs.Calls.{Get};
+ghost use Rattle.calls.specs.Policy.{arcPolicy};
+ghost use Rattle.calls.specs.Outer.{Outcome};
 ghost use Rattle.fresh.specs.Fresh.{answerOf};
 ghost use Rattle.state_check.specs.Check.{stateTest};
-ghost use Rattle.timed.specs.Numbers.{passed, refusal};
+ghost use Rattle.timed.specs.Numbers.{passed, refusal, gotAt};
 
 // 1 where the words are a writing of a well-formed state of that kind, and else 0.
 #[no_mangle]
@@ -25,5 +30,17 @@ pub extern "C" fn timed_new(area: &mut [u64], kind: u64, c: u64) -> u64
     match fresh::new(area, kind, c) {
         Made::Made => 0,
         Made::Refused(n) => n as u64,
+    }
+}
+
+// A get of ARC: the frame of the page, or 2^32 for a miss, or 2^32 + 3 for refusal 3.
+#[no_mangle]
+pub extern "C" fn timed_get(area: &mut [u64], page: u64) -> u64
+    ensures { λ r. ⌜ Outcome arcPolicy (Get page) (now (area .entry)) (now (area .exit)) (gotAt r) ⌝ }
+{
+    match ArcCore::get(area, page) {
+        Got::Hit(f) => f as u64,
+        Got::Miss => 4294967296,
+        Got::Refused => 4294967299,
     }
 }

@@ -1,3 +1,4 @@
+-- `timed::timed_check` meets its contract, by the laws of Laws.antt. Assumes nothing.
 use Rattle.timed.proofs.Laws.{laws}
 use Rattle.timed.proofs.timed_check.Statement.{statement}
 use Rattle.timed.proofs.timed_check.Tie as tie
