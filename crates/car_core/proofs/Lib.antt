@@ -1,2 +1,1 @@
--- Demand 3 of CAR's public calls. Assumes nothing.
-pub mod Demand3
+-- The proofs of CAR's public calls. Assumes nothing.
