@@ -1,7 +1,7 @@
 #!/usr/bin/env python3
 """make_areas.py FOLDER: writes areas of full caches by docs/LAYOUT.md, eight bytes a word, low byte first: FOLDER/KIND-C-SHAPE.area for ARC and CAR and
-the capacities 64, 256 and 1,024. `ordered`: cells and pages rise along every list. `run`: after a run of operations on pages of 64 bits, with the
-cells in any order, as they are after a long time."""
+the capacities 64, 256 and 1,024. `ordered`: cells and pages rise along every list. `run`: after a run of operations, with the cells in any order, as they
+are after a long time; its pages have at most 26 bits, as those of the recorded traces have. `wide`: the same with pages of 64 bits."""
 import os
 import random
 import struct
@@ -25,10 +25,10 @@ def ordered(kind, c):
     return {'c': c, 'target': half, 't1': [entry(e) for e in range(half)], 't2': [entry(e) for e in range(half, c)], 'b1': b1, 'b2': b2, 'free': []}
 
 
-def run(kind, c, rng):
-    """The cache after so many operations that all lists are as full as they come."""
+def run(kind, c, bits, rng):
+    """The cache after so many operations, on pages of so many bits, that all lists are as full as they come."""
     cache = KINDS[kind][1](c)
-    pages = [rng.randrange(2 ** 64) for _ in range(4 * c)]
+    pages = rng.sample(range(2 ** bits), 4 * c) if bits < 63 else [rng.randrange(2 ** bits) for _ in range(4 * c)]
     for _ in range(12 * c):
         page = pages[min(rng.randrange(4 * c), rng.randrange(4 * c))]
         if cache.get(page) == ('miss',):
@@ -59,8 +59,10 @@ def main():
     for kind, (name, _) in KINDS.items():
         for c in (64, 256, 1024):
             any_order = shuffled(rng)
-            state = moved(run(kind, c, rng), any_order(c))
-            for shape, words in (('ordered', area.write(kind, ordered(kind, c))), ('run', area.write(kind, state, order=any_order))):
+            shapes = {'ordered': area.write(kind, ordered(kind, c))}
+            for shape, bits in (('run', 26), ('wide', 64)):
+                shapes[shape] = area.write(kind, moved(run(kind, c, bits, rng), any_order(c)), order=any_order)
+            for shape, words in shapes.items():
                 assert area.good(words, kind)
                 with open(os.path.join(folder, f'{name}-{c}-{shape}.area'), 'wb') as out:
                     out.write(struct.pack(f'<{len(words)}Q', *words))
