@@ -14,17 +14,50 @@ ghost use lib.ListN.{length};
 ghost use lib.Dec.{eqb};
 ghost use Rattle.cells.specs.Cells.{In, nextOf, prevOf};
 ghost use Rattle.rings.specs.Rings.{CanDetach, CanReplace};
-ghost use Rattle.lookup.specs.Buckets.{bucketOf, bucketsOf};
+ghost use Rattle.lookup.specs.Buckets.{bucketOf, inverseOf, bucketsOf};
 ghost use Rattle.lookup.specs.Part.{pageOf, linksOf, Room};
 ghost use Rattle.lookup.specs.Lookup.{findOf, look, placeOr, CanFind};
 ghost use Rattle.lookup.specs.Changes.{unlinked, handedOver, deadened, cleared, blank, putIn, taken, renamed, made, CanPut, CanTake, CanRename, CanReach, CanBlank};
 
-// The bucket of the page p, one of k.
-pub fn bucket_of(k: usize, p: u64) -> usize
+// About how often k goes into x, where `inverse` is about 2^32 / k. Nothing is said of it but that it is small.
+fn quotient(inverse: usize, x: usize) -> usize
+    requires { ⌜ x < 4294967296 ⌝ }
+    ensures { λ r. ⌜ r < 4294967296 ⌝ }
+{
+    x * (inverse % 4294967296) / 4294967296
+}
+
+// The bucket of the page p, one of k. `inverse` is a hint, 2^32 / k: where p and k are below 2^32, `quotient` is then the quotient or one less,
+// and the remainder comes without a division. Any other number gives the same answer, only slower.
+pub fn bucket_of(k: usize, inverse: usize, p: u64) -> usize
     requires { ⌜ 0 < k ⌝ }
     ensures { λ r. ⌜ r ≡ bucketOf k p ⌝ }
 {
-    (p as usize) % k
+    let x = p as usize;
+    if x < 4294967296 {
+        if k < 4294967296 {
+            let t = quotient(inverse, x) * k;
+            if t <= x {
+                let r = x - t;
+                if r < k {
+                    return r;
+                }
+                let s = r - k;
+                if s < k {
+                    return s;
+                }
+            }
+        }
+    }
+    x % k
+}
+
+// The hint for k buckets.
+pub fn inverse_of(k: usize) -> usize
+    requires { ⌜ 0 < k ⌝ }
+    ensures { λ r. ⌜ r ≡ inverseOf k ⌝ }
+{
+    4294967296 / k
 }
 
 // How many buckets a lookup of capacity c has.
@@ -68,11 +101,11 @@ pub fn dead(w: &[u64], m: usize, x: usize) -> bool
 }
 
 // The first place of p's bucket whose page is not below p, or the bucket's sentinel: where p is, or before which it belongs.
-pub fn find(w: &[u64], m: usize, k: usize, p: u64) -> usize
+pub fn find(w: &[u64], m: usize, k: usize, inverse: usize, p: u64) -> usize
     requires { ⌜ CanFind (now w) m k p ⌝ }
     ensures { λ r. ⌜ r ≡ findOf (now (w .entry)) m k p ⌝ }
 {
-    let s = m + bucket_of(k, p);
+    let s = m + bucket_of(k, inverse, p);
     let mut cur = next_of(w, m, s);
     while cur < m {
         if w[cur] < p {
@@ -85,11 +118,11 @@ pub fn find(w: &[u64], m: usize, k: usize, p: u64) -> usize
 }
 
 // The place that has the page p, or m where none has it.
-pub fn place_of(w: &[u64], m: usize, k: usize, p: u64) -> usize
+pub fn place_of(w: &[u64], m: usize, k: usize, inverse: usize, p: u64) -> usize
     requires { ⌜ CanFind (now w) m k p ⌝ }
     ensures { λ r. ⌜ r ≡ placeOr m (look (now (w .entry)) m k p) ⌝ }
 {
-    let f = find(w, m, k, p);
+    let f = find(w, m, k, inverse, p);
     if m <= f {
         return m;
     }

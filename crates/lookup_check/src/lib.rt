@@ -10,12 +10,12 @@ ghost use Rattle.lookup.specs.Buckets.{bucketOf};
 ghost use Rattle.lookup.specs.Part.{Room};
 ghost use Rattle.lookup_check.specs.Check.{walkFrom, walkOf, lookupTest, CanWalk, CanGoOn};
 
-// Whether the page p belongs to bucket b.
-fn belongs(k: usize, b: usize, p: u64) -> bool
+// Whether the page p belongs to bucket b. `inverse` is the hint of `lookup::bucket_of`, here and below.
+fn belongs(k: usize, inverse: usize, b: usize, p: u64) -> bool
     requires { ⌜ 0 < k ⌝ }
     ensures { λ r. ⌜ r ≡ eqb (bucketOf k p) b ⌝ }
 {
-    lookup::bucket_of(k, p) == b
+    lookup::bucket_of(k, inverse, p) == b
 }
 
 // What a walk finds: how much of the budget is left, or that the words are no lookup, or that the budget is too small.
@@ -25,7 +25,7 @@ pub enum Rest {
 }
 
 // The walk of bucket b after its place a, with a budget of so many places. p is the page of the place that is come to.
-fn walk_on(w: &[u64], m: usize, k: usize, b: usize, most: usize, a: usize) -> Rest
+fn walk_on(w: &[u64], m: usize, k: usize, inverse: usize, b: usize, most: usize, a: usize) -> Rest
     requires { ⌜ CanGoOn (now w) m k b a ⌝ }
     ensures { λ r. ⌜ r ≡ walkFrom (now (w .entry)) m k b most a ⌝ }
 {
@@ -45,7 +45,7 @@ fn walk_on(w: &[u64], m: usize, k: usize, b: usize, most: usize, a: usize) -> Re
         if q <= p {
             return Rest::Bad;
         }
-        if belongs(k, b, q) {
+        if belongs(k, inverse, b, q) {
             left = left - 1;
             cur = x;
             p = q;
@@ -64,7 +64,7 @@ fn walk_on(w: &[u64], m: usize, k: usize, b: usize, most: usize, a: usize) -> Re
 }
 
 // The walk of bucket b, with a budget of so many places. Most buckets have one place or none: the first has no page before it to be held against.
-pub fn walk(w: &[u64], m: usize, k: usize, b: usize, most: usize) -> Rest
+pub fn walk(w: &[u64], m: usize, k: usize, inverse: usize, b: usize, most: usize) -> Rest
     requires { ⌜ CanWalk (now w) m k b ⌝ }
     ensures { λ r. ⌜ r ≡ walkOf (now (w .entry)) m k b most ⌝ }
 {
@@ -86,23 +86,23 @@ pub fn walk(w: &[u64], m: usize, k: usize, b: usize, most: usize) -> Rest
         return Rest::Bad;
     }
     let p = lookup::page_of(w, x);
-    if belongs(k, b, p) {
+    if belongs(k, inverse, b, p) {
         let left = most - 1;
-        walk_on(w, m, k, b, left, x)
+        walk_on(w, m, k, inverse, b, left, x)
     } else {
         Rest::Bad
     }
 }
 
 // Whether the words are a lookup that holds exactly `live` places.
-pub fn check(w: &[u64], m: usize, k: usize, live: usize) -> bool
+pub fn check(w: &[u64], m: usize, k: usize, inverse: usize, live: usize) -> bool
     requires { ⌜ Room (now w) m k ⌝ }
     ensures { λ r. ⌜ r ≡ lookupTest (now (w .entry)) m k live ⌝ }
 {
     let mut rest = live;
     let mut b = 0;
     while b < k {
-        match walk(w, m, k, b, rest) {
+        match walk(w, m, k, inverse, b, rest) {
             Rest::Left(n) => {
                 rest = n;
                 b = b + 1;

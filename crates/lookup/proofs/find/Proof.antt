@@ -7,10 +7,10 @@ use Rattle.lookup.proofs.find.Statement.{statement}
 use Rattle.lookup.proofs.find.Tie as tie
 
 abbrev Inv-loop : tie.InvT-loop
-Inv-loop w m k p s cur₀ cur = Sought w m k p s cur
+Inv-loop w m k inverse p s cur₀ cur = Sought w m k p s cur
 
 abbrev μ-loop : tie.MeasureT-loop
-μ-loop w m k p s cur₀ cur = length (follow (linksOf m w) m m cur)
+μ-loop w m k inverse p s cur₀ cur = length (follow (linksOf m w) m m cur)
 
 bucket-of-requires : tie.Need-bucket-of-requires Inv-loop μ-loop
 bucket-of-requires c κs = search laws

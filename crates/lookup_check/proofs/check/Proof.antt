@@ -5,10 +5,10 @@ use Rattle.lookup_check.proofs.check.Statement.{statement}
 use Rattle.lookup_check.proofs.check.Tie as tie
 
 abbrev Inv-loop : tie.InvT-loop
-Inv-loop w m k live rest₀ b₀ rest b = Checked w m k live rest b
+Inv-loop w m k inverse live rest₀ b₀ rest b = Checked w m k live rest b
 
 abbrev μ-loop : tie.MeasureT-loop
-μ-loop w m k live rest₀ b₀ rest b = k - b
+μ-loop w m k inverse live rest₀ b₀ rest b = k - b
 
 loop-holds : tie.Need-loop-holds Inv-loop μ-loop
 loop-holds c = search laws

@@ -5,10 +5,10 @@ use Rattle.lookup_check.proofs.walk_on.Statement.{statement}
 use Rattle.lookup_check.proofs.walk_on.Tie as tie
 
 abbrev Inv-loop : tie.InvT-loop
-Inv-loop w m k b most a s left₀ cur₀ p₀ x₀ left cur p x = WalkedOn w m k b (walkFrom w m k b most a) left cur p x
+Inv-loop w m k inverse b most a s left₀ cur₀ p₀ x₀ left cur p x = WalkedOn w m k b (walkFrom w m k b most a) left cur p x
 
 abbrev μ-loop : tie.MeasureT-loop
-μ-loop w m k b most a s left₀ cur₀ p₀ x₀ left cur p x = left
+μ-loop w m k inverse b most a s left₀ cur₀ p₀ x₀ left cur p x = left
 
 add-s : tie.Need-add-s Inv-loop μ-loop
 add-s c = search onLaws
