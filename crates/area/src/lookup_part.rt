@@ -1,4 +1,4 @@
-// The lookup's part of an area.
+// The lookup's part of an area. Word 3 of the header has the hint for its buckets, which no answer depends on.
 ghost use mathlib.Core.Path.{_≡_};
 ghost use Prim.Native.Nat.{_+_, _*_, _<_, _≤_};
 ghost use lib.Dec.{eqb};
@@ -20,7 +20,8 @@ pub fn find(area: &[u64], c: usize, x: u64) -> usize
     let b = 24 * c + 64;
     let m = 3 * c;
     let k = lookup::buckets_of(c);
-    lookup::find(&area[a..b], m, k, x)
+    let inverse = area[3] as usize;
+    lookup::find(&area[a..b], m, k, inverse, x)
 }
 
 // The place of the page x, or 3c for none.
@@ -32,7 +33,8 @@ pub fn place_of(area: &[u64], c: usize, x: u64) -> usize
     let b = 24 * c + 64;
     let m = 3 * c;
     let k = lookup::buckets_of(c);
-    lookup::place_of(&area[a..b], m, k, x)
+    let inverse = area[3] as usize;
+    lookup::place_of(&area[a..b], m, k, inverse, x)
 }
 
 // The page of the place y.

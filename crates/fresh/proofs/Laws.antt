@@ -3,7 +3,7 @@ use mathlib.Core.Path.{_≡_, refl, ap, _∙_}
 use mathlib.Core.List.{List}
 use Prim.Native.Nat.{ℕ, _+_, _*_, _/_, _<_, _≤_}
 use native.Mathlib.Omega.{arith}
-use lib.ListN.{length, set, length-set}
+use lib.ListN.{length, getD, set, drop, length-set}
 use lib.Seq.{getD-set-same, getD-set-other, drop-set-lt}
 use borrow.Author.Needs.{needs}
 use borrow.Author.Tests.{lt-ltb, le-ltb}
@@ -12,9 +12,10 @@ use Rattle.rules.specs.Car.{new}
 use Rattle.residents.specs.Residents as residents
 use Rattle.residents.specs.Changes as changes
 use Rattle.ghosts.specs.Ghosts as ghosts
-use Rattle.lookup.specs.Buckets.{bucketsOf, placesOf}
+use Rattle.lookup.specs.Buckets.{inverseOf, bucketsOf, placesOf}
 use Rattle.lookup.specs.Part as lookup
 use Rattle.lookup.specs.Changes as lookups
+use Rattle.lookup.proofs.Buckets.{buckets-some}
 use Rattle.parts.specs.Parts.{Parts, stateOf, setTarget, setResidents, setGhosts, setLookup}
 use Rattle.parts.specs.Changes.{made}
 use Rattle.parts.proofs.Making.{made-becomes}
@@ -93,29 +94,45 @@ cleared c w v s b = left c w v _ (new c) s b (made-becomes c (partsOf c w) (have
 -- ---- `new`
 pub written : (kind c : ℕ) (w u v : List ℕ) → Fits c w → u ≡ headed kind c w → Became c u v (made c (partsOf c u)) → Empty kind c w v
 unfolding new stateIn headed
-written kind c w u v f q b′ =
-    let b : Became c (set (set w 0 kind) 1 c) v (made c (partsOf c (set (set w 0 kind) 1 c))) = rw q at b′ in
+written kind c w u v f q b =
+    let a = set w 0 kind in
+    let h = set a 1 c in
+    let i = inverseOf (bucketsOf c) in
     let s : endAt c ≤ length w = f .size in
-    let l : length (set (set w 0 kind) 1 c) ≡ length w = length-set (set w 0 kind) 1 c ∙ length-set w 0 kind in
-    let d = made-becomes c (partsOf c (set (set w 0 kind) 1 c)) (have-room c (set (set w 0 kind) 1 c) (f .small) (omega arith)) in
+    let m : length a ≡ length w = length-set w 0 kind in
+    let g : length h ≡ length w = length-set a 1 c ∙ m in
+    let l : length u ≡ length w = ap length q ∙ length-set h 3 i ∙ g in
+    let d = made-becomes c (partsOf c u) (have-room c u (f .small) (omega arith)) in
     let n : length v ≡ length w = b .size ∙ l in
     record {
       writes =
           record {
-            kind = b .kind ∙ getD-set-other (set w 0 kind) 1 0 c 0 (λ e. omega arith) ∙ getD-set-same w 0 kind 0 (omega arith);
-            stored = record { size = omega arith; capacity = b .capacity ∙ getD-set-same (set w 0 kind) 1 c 0 (omega (arith, length-set w 0 kind)); holds = rw (b .parts) (d .holds) };
+            kind = b .kind ∙ ap (λ (z : List ℕ). getD z 0 0) q ∙ getD-set-other h 3 0 i 0 (λ e. omega arith) ∙ getD-set-other a 1 0 c 0 (λ e. omega arith) ∙ getD-set-same w 0 kind 0 (omega arith);
+            stored =
+                record {
+                  size = omega arith;
+                  capacity = b .capacity ∙ ap (λ (z : List ℕ). getD z 1 0) q ∙ getD-set-other h 3 1 i 0 (λ e. omega arith) ∙ getD-set-same a 1 c 0 (omega arith);
+                  holds = rw (b .parts) (d .holds);
+                };
             reads = ap (stateOf c) (b .parts) ∙ d .reads;
           };
       size = n;
-      rest = b .rest ∙ drop-set-lt (endAt c) (set w 0 kind) 1 c (omega arith) ∙ drop-set-lt (endAt c) w 0 kind (omega arith);
+      rest = b .rest ∙ ap (drop (endAt c)) q ∙ drop-set-lt (endAt c) h 3 i (omega arith) ∙ drop-set-lt (endAt c) a 1 c (omega arith) ∙ drop-set-lt (endAt c) w 0 kind (omega arith);
     }
 
 pub header-fits : (kind c : ℕ) (w v : List ℕ) → Fits c w → length v ≡ length w → Fits c v
 header-fits kind c w v f q = record { small = f .small; size = rw q (f .size) }
 
-pub headed-is : (kind c : ℕ) (w : List ℕ) → set (set w 0 kind) 1 c ≡ headed kind c w
+-- what the hint asks, and the words that the header leaves
+pub header-small : (c : ℕ) (w : List ℕ) → Fits c w → c ≤ 1024
+header-small c w f = f .small
+
+pub header-some : (c k : ℕ) → k ≡ bucketsOf c → 0 < k
+header-some c k q = rw q (buckets-some c)
+
+pub headed-is : (kind c k i : ℕ) (w : List ℕ) → k ≡ bucketsOf c → i ≡ inverseOf k → set (set (set w 0 kind) 1 c) 3 i ≡ headed kind c w
 unfolding headed
-headed-is kind c w = refl
+headed-is kind c k i w q e = rw (e, q) refl
 
 pub refused-capacity : (kind c : ℕ) (w : List ℕ) → 1024 < c → New kind c w w (Refused 1)
 unfolding answerOf
@@ -132,4 +149,4 @@ made-new kind c w v h k e = record { answer = rw (le-ltb 1024 c h, le-ltb (lengt
 pub fits-new : (c : ℕ) (w : List ℕ) → c ≤ 1024 → 24 * c + 64 ≤ length w → Fits c w
 fits-new c w h k = record { small = h; size = k }
 
-pub ruleset laws = (fit-of, residents-asks, ghosts-asks, lookup-asks, fits-after, stored-fits, header-fits, headed-is, refused-capacity, refused-area, made-new, fits-new, needs)
+pub ruleset laws = (fit-of, residents-asks, ghosts-asks, lookup-asks, fits-after, stored-fits, header-fits, header-small, header-some, headed-is, refused-capacity, refused-area, made-new, fits-new, needs)

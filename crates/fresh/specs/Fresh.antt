@@ -8,6 +8,7 @@ use lib.ListN.{length, set, drop}
 use Rattle.rules.specs.State.{maxCapacity}
 use Rattle.rules.specs.Public.{wordsNeeded}
 use Rattle.rules.specs.Car.{new}
+use Rattle.lookup.specs.Buckets.{inverseOf, bucketsOf}
 use Rattle.area.specs.Area.{endAt}
 use Rattle.area.specs.Stored.{Writes}
 use Rattle.fresh.specs.declared.Made as declared
@@ -18,9 +19,9 @@ pub record Fits (c : ℕ) (w : List ℕ) : Type 0 where
   pub small : c ≤ maxCapacity
   pub size : endAt c ≤ length w
 
--- the words w with a kind and a capacity
+-- the words w with a kind and a capacity, and the hint for the lookup's buckets, which no state and no answer depends on
 unfoldable pub headed : ℕ → ℕ → List ℕ → List ℕ
-headed kind c w = set (set w 0 kind) 1 c
+headed kind c w = set (set (set w 0 kind) 1 c) 3 (inverseOf (bucketsOf c))
 
 -- "1 CAPACITY: `new` with c > 1,024", "2 AREA: `new` with fewer than 24c + 64 words", 1 before 2
 unfoldable pub answerOf : ℕ → ℕ → declared.Made

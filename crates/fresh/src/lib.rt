@@ -63,16 +63,19 @@ fn make_parts(area: &mut [u64], c: usize)
     area::set_target(area, c, t as u64);
 }
 
-// The kind and the capacity.
+// The kind and the capacity, and the hint for the lookup's buckets.
 fn set_header(area: &mut [u64], kind: u64, c: usize)
     requires { ⌜ Fits c (now area) ⌝ }
     ensures { λ _. ⌜ now (area .exit) ≡ headed kind c (now (area .entry)) ⌝ }
 {
     area[0] = kind;
     area[1] = c as u64;
+    let k = lookup::buckets_of(c);
+    let inverse = lookup::inverse_of(k);
+    area[3] = inverse as u64;
 }
 
-// The kind and the capacity, and an empty cache.
+// The header, and an empty cache.
 fn write(area: &mut [u64], kind: u64, c: usize)
     requires { ⌜ Fits c (now area) ⌝ }
     ensures { λ _. ⌜ Empty kind c (now (area .entry)) (now (area .exit)) ⌝ }

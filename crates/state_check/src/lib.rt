@@ -138,7 +138,8 @@ fn check_lookup(area: &[u64], c: usize, live: usize) -> bool
     let b = 24 * c + 64;
     let m = 3 * c;
     let k = lookup::buckets_of(c);
-    lookup_check::check(&area[a..b], m, k, live)
+    let inverse = area[3] as usize;
+    lookup_check::check(&area[a..b], m, k, inverse, live)
 }
 
 // The residents and both ghost lists.

@@ -23,6 +23,9 @@ buckets-of-requires : tie.Need-buckets-of-requires
 unfolding lookupIn part
 buckets-of-requires c κs = search laws
 
+shared-slice-read-inverse : tie.Need-shared-slice-read-inverse
+shared-slice-read-inverse c = search laws
+
 mul-find : tie.Need-mul-find
 mul-find c = search laws
 
@@ -53,6 +56,7 @@ find-spec =
     add-b
     mul-m
     buckets-of-requires
+    shared-slice-read-inverse
     mul-find
     sub-find
     part-find-start
