@@ -93,15 +93,17 @@ def good(words, kind):
 
 # ---- writing
 
-def write(kind, state, junk=lambda: 0, past=0, order=lambda c: list(range(c))):
-    """A writing of a state, with what `junk` gives in the words that LAYOUT.md leaves open, and some words past the need. The cells of a ghost list are
-    taken in the order that `order` gives."""
+def write(kind, state, junk=None, past=0, order=lambda c: list(range(c))):
+    """A writing of a state, with what `junk` gives in the words that LAYOUT.md leaves open, and some words past the need. Without `junk` they are 0, and the
+    hint for the buckets is what `new` writes. The cells of a ghost list are taken in the order that `order` gives."""
     c = state['c']
     at = starts(c)
-    words = [junk() for _ in range(at['end'] + past)]
-    words[0:3] = [kind, c, state['target']]
     r, k = at['residents'], at['lookup']
     links, m, buckets = k + 3 * c, 3 * c, 3 * c + 1
+    words = [junk() if junk else 0 for _ in range(at['end'] + past)]
+    words[0:3] = [kind, c, state['target']]
+    if not junk:
+        words[3] = 2 ** 32 // buckets
     pages = {}
     for i, name in enumerate(('t1', 't2')):
         words[r + i] = len(state[name])

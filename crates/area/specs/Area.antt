@@ -9,7 +9,7 @@ use Rattle.rules.specs.State.{Side, first, second}
 use Rattle.parts.specs.Parts.{Parts}
 use Rattle.area.specs.Part.{part}
 
--- ---- the header: the kind, the capacity and the target; the other words are kept for what is to come
+-- ---- the header: the kind, the capacity and the target. Word 3 is a hint for the lookup's buckets, on which nothing depends but time; the others are kept for what is to come
 abbrev pub kindOf : List ℕ → ℕ
 kindOf w = getD w 0 0
 

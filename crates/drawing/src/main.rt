@@ -94,7 +94,8 @@ fn put_header(area: &[u64], out: &mut [u8], at: usize) -> usize {
     let a = put(area, 0, b" kind: ", out, at);
     let b = put(area, 1, b" capacity: ", out, a);
     let c = put(area, 2, b" target: ", out, b);
-    telling::word(out, c, b"3 to 42 kept for what is to come\n")
+    let d = put(area, 3, b" hint for the buckets: ", out, c);
+    telling::word(out, d, b"4 to 42 kept for what is to come\n")
 }
 
 fn put_counts(area: &[u64], out: &mut [u8], at: usize) -> usize {
