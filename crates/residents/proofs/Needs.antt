@@ -5,7 +5,7 @@ use mathlib.Core.List.{List, [], _∷_}
 use Prim.Native.Nat.{ℕ, suc, _+_, _-_, _*_, _^_, _<_, _≤_}
 use native.Mathlib.Omega.{arith}
 use lib.ListN.{length, getD, set, length-set}
-use lib.Seq.{getD-set-same, getD-set-other}
+use lib.Seq.{getD-set-same, getD-set-other, set-getD, set-set}
 use mir.Syntax.{w64}
 use mir.Val.{Fits}
 use borrow.Author.Needs.{needs}
@@ -58,6 +58,18 @@ module _ (w : List ℕ) (c i j : ℕ) (can : CanRecount w c i j) where
   pub recount-some : 1 ≤ getD w i 0
   unfolding countOf
   recount-some = can .some
+
+  -- one less and one more
+  pub recount-stays : i ≡ j → w ≡ recounted i j w
+  unfolding recounted countOf
+  recount-stays e =
+      let h : 3 + 3 * c ≤ length w = can .room .head in
+      let k : i < 3 = can .from in
+      let o : 1 ≤ getD w i 0 = can .some in
+      let n : ℕ = getD w i 0 - 1 in
+      let a : getD (set w i n) i 0 + 1 ≡ getD w i 0 = ap (λ (m : ℕ). m + 1) (getD-set-same w i n 0 (omega arith)) ∙ omega arith in
+      let b : set (set w i n) i (getD (set w i n) i 0 + 1) ≡ w = ap (set (set w i n) i) a ∙ set-set w i n (getD w i 0) ∙ set-getD w i 0 in
+      sym (ap (λ (m : ℕ). set (set w i n) m (getD (set w i n) m 0 + 1)) (sym e) ∙ b)
 
   pub recount-within : j < length (set w i (getD w i 0 - 1))
   recount-within = let z : length (set w i (getD w i 0 - 1)) ≡ length w = length-set w i (getD w i 0 - 1) in let h : 3 + 3 * c ≤ length w = can .room .head in let l : j < 3 = can .to in omega arith

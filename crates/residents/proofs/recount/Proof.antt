@@ -1,10 +1,13 @@
--- `residents::recount` meets its contract. The first count is not 0, and the second, read after the first is stored, fits. Assumes nothing.
+-- `residents::recount` meets its contract. Where both are one list nothing changes; else the first count is not 0, and the second, read after the first is stored, fits. Assumes nothing.
 use Rattle.residents.specs.Changes.{recounted}
 use Rattle.residents.specs.Residents.{countOf}
-use Rattle.residents.proofs.Needs.{recount-some, recount-within, recount-fits}
+use Rattle.residents.proofs.Needs.{recount-stays, recount-some, recount-within, recount-fits}
 use borrow.Author.Needs.{needs}
 use Rattle.residents.proofs.recount.Statement.{statement}
 use Rattle.residents.proofs.recount.Tie as tie
+
+returns : tie.Need-returns
+returns c = search (recount-stays, needs)
 
 mul-w : tie.Need-mul-w
 mul-w c = search needs
@@ -39,14 +42,15 @@ slice-write-w-2 c = search recount-within
 same-length : tie.Need-same-length
 same-length c = search needs
 
-returns : tie.Need-returns
+returns-2 : tie.Need-returns-2
 unfolding recounted countOf
-returns c = search needs
+returns-2 c = search needs
 
 pub recount-spec : {M : Type 1} → statement M
 recount-spec =
     tie.close
     (tie.spec
+    returns
     mul-w
     slice-read-w
     sub-w
@@ -58,4 +62,4 @@ recount-spec =
     mul-w-4
     slice-write-w-2
     same-length
-    returns)
+    returns-2)
