@@ -101,7 +101,7 @@ pub fn clear(a: &mut [u64], c: usize)
     fresh::clear(a, c);
 }
 
-// How many are resident.
+// How many are resident, and how many may be.
 pub fn len(a: &[u64], c: usize) -> usize
     requires { ⌜ Good arcPolicy c (now a) ⌝ }
     ensures { λ r. ⌜ Says arcPolicy Len c (now (a .entry)) (Number r) ⌝ }

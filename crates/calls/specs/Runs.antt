@@ -6,7 +6,7 @@ use Rattle.rules.specs.Counts.{Counts, noCounts, counted, plus}
 use Rattle.calls.specs.Policy.{Policy}
 use Rattle.calls.specs.Outer.{Outcome, Told, Making}
 
--- any public calls, one after the other, each by its contract: from the words w to the words v, with the counts n of their answers
+-- any single public calls, one after the other, each by its contract (a batch is not among them): from the words w to the words v, with the counts n of their answers
 pub data Run (P : Policy) : List ℕ → Counts → List ℕ → Type 0 where
   none : {w : List ℕ} → Run P w noCounts w
   call : {k : Call} {a : Answer} {n : Counts} {w u v : List ℕ} → Outcome P k w u a → Run P u n v → Run P w (plus (counted a) n) v

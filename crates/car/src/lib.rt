@@ -29,7 +29,7 @@ pub fn get(a: &mut [u64], c: usize, x: u64) -> answers::Got
     }
 }
 
-// The same without a trace of it.
+// The frame of page x; nothing changes.
 pub fn peek(a: &[u64], c: usize, x: u64) -> answers::Seen
     requires { ⌜ Good carPolicy c (now a) ⌝ }
     ensures { λ r. ⌜ Says carPolicy (Peek x) c (now (a .entry)) (seenIs r) ⌝ }
@@ -44,6 +44,7 @@ pub fn peek(a: &[u64], c: usize, x: u64) -> answers::Seen
     }
 }
 
+// Whether page x is resident; nothing changes.
 pub fn contains(a: &[u64], c: usize, x: u64) -> bool
     requires { ⌜ Good carPolicy c (now a) ⌝ }
     ensures { λ r. ⌜ Says carPolicy (Contains x) c (now (a .entry)) (Holds r) ⌝ }
@@ -88,7 +89,7 @@ pub fn remove(a: &mut [u64], c: usize, x: u64) -> answers::Gone
     }
 }
 
-// All lists empty.
+// All lists are empty, the target is c / 2, and the free slots are 0, 1, 2 and so on.
 pub fn clear(a: &mut [u64], c: usize)
     requires { ⌜ Good carPolicy c (now a) ⌝ }
     ensures { λ _. ⌜ Did carPolicy Clear c (now (a .entry)) (now (a .exit)) Cleared ⌝ }
@@ -96,7 +97,7 @@ pub fn clear(a: &mut [u64], c: usize)
     fresh::clear(a, c);
 }
 
-// How many are resident.
+// How many are resident, and how many may be.
 pub fn len(a: &[u64], c: usize) -> usize
     requires { ⌜ Good carPolicy c (now a) ⌝ }
     ensures { λ r. ⌜ Says carPolicy Len c (now (a .entry)) (Number r) ⌝ }

@@ -1,4 +1,4 @@
--- DEMAND 3 of the code's public calls, from their contracts alone: the sum over any calls, and the replacement of an insert. Assumes nothing.
+-- DEMAND 3 of the code's public calls, from their contracts alone: the sum over any single calls one after the other (`Run`), and the replacement of an insert. Assumes nothing.
 use mathlib.Core.Path.{_≡_, refl, ap, _∙_}
 use mathlib.Core.Bool.{Bool, true, false, false≢true}
 use mathlib.Core.List.{List}

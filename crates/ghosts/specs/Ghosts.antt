@@ -19,7 +19,7 @@ countOf w = getD w 0 0
 abbrev pub linksOf : List ℕ → List ℕ
 linksOf w = tailOf 1 w
 
--- a part with the count n and the links l, the words of w there being
+-- the part w with the count n and the links l
 unfoldable pub ghostWords : ℕ → List ℕ → List ℕ → List ℕ
 ghostWords n l w = set (withTail 1 l w) 0 n
 

@@ -1,3 +1,4 @@
+-- The laws of numbers. Assumes nothing.
 pub mod Bounds
 pub mod Examples
 pub mod Laws

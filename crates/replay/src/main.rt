@@ -16,7 +16,7 @@ struct Standing {
     more: bool,
 }
 
-// Lines are written by so many bytes at most.
+// A buffer for lines, which are written when a feed is done.
 fn lines() -> [u8; 262144]
     ensures { λ r. ⌜ 262144 ≡ length r ⌝ }
 {

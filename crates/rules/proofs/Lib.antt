@@ -1,3 +1,4 @@
+-- The theorems about the rules. Assumes nothing.
 pub mod Bench
 pub mod ListLaws
 pub mod StateLaws

@@ -31,7 +31,7 @@ pub data Call : Type 0 where
   Clear : Call
   Ask : Question → Call
 
--- a call's page is a u64 and its frame a u32
+-- a call's page is a u64 and its frame a u32; a question changes no state, and nothing is asked of it
 abbrev pub InRange : Call → Type 0
 InRange (Get x) = IsPage x
 InRange (Insert x f) = IsPage x × IsFrame f

@@ -1,4 +1,4 @@
--- The state rules as tests that compute: an area is refused with 3 exactly where its policy's test fails. Assumes nothing.
+-- The state rules as tests of a state that compute: each is true of the well-formed states of its policy, and of no others (proofs/CheckLaws). Assumes nothing.
 use Prim.Native.Nat.{ℕ, zero, suc, _+_, _*_, _^_}
 use mathlib.Core.List.{List, [], _∷_, _++_, map}
 use mathlib.Core.Bool.{Bool, true, false, not, _&&_}

@@ -1,3 +1,4 @@
+-- The rules of document 01. Assumes nothing.
 pub mod Lists
 pub mod State
 pub mod Calls

@@ -1,3 +1,4 @@
+-- The laws of traces. Assumes nothing.
 pub mod Arms
 pub mod Checks
 pub mod Examples

@@ -1,2 +1,3 @@
+-- The definitions that the contracts of `trace` cite. Assumes nothing.
 pub mod Reading
 pub mod Steps

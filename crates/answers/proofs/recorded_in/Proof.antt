@@ -1,3 +1,4 @@
+-- `answers::recorded_in` meets its contract. Assumes nothing.
 use Rattle.answers.proofs.Laws.{laws}
 use Rattle.answers.proofs.recorded_in.Statement.{statement}
 use Rattle.answers.proofs.recorded_in.Tie as tie

@@ -1,3 +1,4 @@
+-- `listing::advance` meets its contract. Assumes nothing.
 use Rattle.listing.proofs.Laws.{laws}
 use Rattle.listing.proofs.advance.Statement.{statement}
 use Rattle.listing.proofs.advance.Tie as tie

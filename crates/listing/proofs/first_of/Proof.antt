@@ -1,3 +1,4 @@
+-- `listing::first_of` meets its contract. Assumes nothing.
 use Rattle.listing.proofs.Laws.{laws}
 use Rattle.listing.proofs.first_of.Statement.{statement}
 use Rattle.listing.proofs.first_of.Tie as tie

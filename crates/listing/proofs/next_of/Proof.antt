@@ -1,3 +1,4 @@
+-- `listing::next_of` meets its contract. Assumes nothing.
 use Rattle.listing.proofs.Laws.{laws}
 use Rattle.listing.proofs.next_of.Statement.{statement}
 use Rattle.listing.proofs.next_of.Tie as tie

@@ -1,3 +1,4 @@
+-- `listing::onward` meets its contract. Assumes nothing.
 use Rattle.listing.proofs.Laws.{laws}
 use Rattle.listing.proofs.onward.Statement.{statement}
 use Rattle.listing.proofs.onward.Tie as tie

@@ -1,3 +1,4 @@
+-- `listing::prepare` meets its contract. Assumes nothing.
 use Rattle.listing.proofs.Laws.{laws}
 use Rattle.listing.proofs.prepare.Statement.{statement}
 use Rattle.listing.proofs.prepare.Tie as tie

@@ -1,3 +1,4 @@
+-- `listing::prepare_in` meets its contract. Assumes nothing.
 use Rattle.listing.proofs.Laws.{laws}
 use Rattle.listing.proofs.prepare_in.Statement.{statement}
 use Rattle.listing.proofs.prepare_in.Tie as tie

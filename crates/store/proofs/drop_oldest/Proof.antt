@@ -1,3 +1,4 @@
+-- `store::drop_oldest` meets its contract. Assumes nothing.
 use Rattle.store.proofs.Ghosts.{oldest-fits, oldest-takes}
 use Rattle.store.proofs.Laws.{laws}
 use Rattle.store.proofs.drop_oldest.Statement.{statement}

@@ -1,3 +1,4 @@
+-- `store::enter_end` meets its contract. Assumes nothing.
 use Rattle.store.proofs.Entering.{enter-adds, enter-puts, enter-end-left}
 use Rattle.store.proofs.Laws.{laws}
 use Rattle.store.proofs.enter_end.Statement.{statement}

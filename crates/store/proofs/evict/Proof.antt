@@ -1,3 +1,4 @@
+-- `store::evict` meets its contract. Assumes nothing.
 use Rattle.store.proofs.Slots.{is-slot, page-reads, frame-fits, frame-reads, place-fits, slot-fits}
 use Rattle.store.proofs.Laws.{laws}
 use Rattle.store.proofs.evict.Statement.{statement}

@@ -1,3 +1,4 @@
+-- `store::find` meets its contract. Assumes nothing.
 use Rattle.store.proofs.Laws.{laws}
 use Rattle.store.proofs.find.Statement.{statement}
 use Rattle.store.proofs.find.Tie as tie

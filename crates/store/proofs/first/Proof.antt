@@ -1,3 +1,4 @@
+-- `store::first` meets its contract. Assumes nothing.
 use Rattle.store.proofs.Laws.{laws}
 use Rattle.store.proofs.first.Statement.{statement}
 use Rattle.store.proofs.first.Tie as tie

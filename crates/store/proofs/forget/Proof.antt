@@ -1,3 +1,4 @@
+-- `store::forget` meets its contract. Assumes nothing.
 use Rattle.store.proofs.Ghosts.{forget-fits}
 use Rattle.store.proofs.Laws.{laws}
 use Rattle.store.proofs.forget.Statement.{statement}

@@ -1,3 +1,4 @@
+-- `store::frame` meets its contract. Assumes nothing.
 use Rattle.store.proofs.Laws.{laws}
 use Rattle.store.proofs.frame.Statement.{statement}
 use Rattle.store.proofs.frame.Tie as tie

@@ -1,3 +1,4 @@
+-- `store::ghost_place` meets its contract. Assumes nothing.
 use Rattle.store.proofs.Laws.{laws}
 use Rattle.store.proofs.ghost_place.Statement.{statement}
 use Rattle.store.proofs.ghost_place.Tie as tie

@@ -1,3 +1,4 @@
+-- `store::last` meets its contract. Assumes nothing.
 use Rattle.store.proofs.Laws.{laws}
 use Rattle.store.proofs.last.Statement.{statement}
 use Rattle.store.proofs.last.Tie as tie

@@ -1,3 +1,4 @@
+-- `store::leave` meets its contract. Assumes nothing.
 use Rattle.store.proofs.Evicting.{leave-records, leaves, leave-low}
 use Rattle.store.proofs.Laws.{laws}
 use Rattle.store.proofs.leave.Statement.{statement}

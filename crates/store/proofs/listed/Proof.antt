@@ -1,3 +1,4 @@
+-- `store::listed` meets its contract. Assumes nothing.
 use Rattle.store.proofs.Laws.{laws}
 use Rattle.store.proofs.listed.Statement.{statement}
 use Rattle.store.proofs.listed.Tie as tie

@@ -1,3 +1,4 @@
+-- `store::next` meets its contract. Assumes nothing.
 use Rattle.store.proofs.Laws.{laws}
 use Rattle.store.proofs.next.Statement.{statement}
 use Rattle.store.proofs.next.Tie as tie

@@ -1,3 +1,4 @@
+-- `store::page` meets its contract. Assumes nothing.
 use Rattle.store.proofs.Laws.{laws}
 use Rattle.store.proofs.page.Statement.{statement}
 use Rattle.store.proofs.page.Tie as tie

@@ -1,3 +1,4 @@
+-- `store::put_out` meets its contract. Assumes nothing.
 use Rattle.store.proofs.Evicting.{full-takes, full-renames, full-left, room-renames, room-left}
 use Rattle.store.proofs.Laws.{laws}
 use Rattle.store.proofs.put_out.Statement.{statement}

@@ -1,3 +1,4 @@
+-- `store::recorded` meets its contract. Assumes nothing.
 use Rattle.store.proofs.Laws.{laws}
 use Rattle.store.proofs.recorded.Statement.{statement}
 use Rattle.store.proofs.recorded.Tie as tie

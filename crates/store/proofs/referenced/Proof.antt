@@ -1,3 +1,4 @@
+-- `store::referenced` meets its contract. Assumes nothing.
 use Rattle.store.proofs.Laws.{laws}
 use Rattle.store.proofs.referenced.Statement.{statement}
 use Rattle.store.proofs.referenced.Tie as tie

@@ -1,3 +1,4 @@
+-- `store::set_bit` meets its contract. Assumes nothing.
 use Rattle.store.proofs.Laws.{laws}
 use Rattle.store.proofs.set_bit.Statement.{statement}
 use Rattle.store.proofs.set_bit.Tie as tie

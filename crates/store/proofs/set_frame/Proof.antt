@@ -1,3 +1,4 @@
+-- `store::set_frame` meets its contract. Assumes nothing.
 use Rattle.store.proofs.Laws.{laws}
 use Rattle.store.proofs.set_frame.Statement.{statement}
 use Rattle.store.proofs.set_frame.Tie as tie

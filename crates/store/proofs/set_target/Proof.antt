@@ -1,3 +1,4 @@
+-- `store::set_target` meets its contract. Assumes nothing.
 use Rattle.store.proofs.Laws.{laws}
 use Rattle.store.proofs.set_target.Statement.{statement}
 use Rattle.store.proofs.set_target.Tie as tie

@@ -1,3 +1,4 @@
+-- `store::start` meets its contract. Assumes nothing.
 use Rattle.store.proofs.Laws.{laws}
 use Rattle.store.proofs.start.Statement.{statement}
 use Rattle.store.proofs.start.Tie as tie

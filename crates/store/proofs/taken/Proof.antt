@@ -1,3 +1,4 @@
+-- `store::taken` meets its contract. Assumes nothing.
 use Rattle.store.proofs.Laws.{laws}
 use Rattle.store.proofs.taken.Statement.{statement}
 use Rattle.store.proofs.taken.Tie as tie

@@ -1,3 +1,4 @@
+-- `store::to_end` meets its contract. Assumes nothing.
 use Rattle.store.proofs.Laws.{laws}
 use Rattle.store.proofs.to_end.Statement.{statement}
 use Rattle.store.proofs.to_end.Tie as tie

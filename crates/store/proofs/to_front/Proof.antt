@@ -1,3 +1,4 @@
+-- `store::to_front` meets its contract. Assumes nothing.
 use Rattle.store.proofs.Laws.{laws}
 use Rattle.store.proofs.to_front.Statement.{statement}
 use Rattle.store.proofs.to_front.Tie as tie
