@@ -1,10 +1,10 @@
 // The test program `cases`: document 01's bench cases P1 to P8, what it asks to be run only, and every refusal number, through public calls. A
 // line for each. The file stdout is written by hand from document 01; the lists are read from the words of the area by docs/LAYOUT.md.
+use answers::Cleared;
 use answers::Gone;
 use answers::Got;
 use answers::Inserted;
 use answers::Place;
-use answers::Reply;
 use answers::Seen;
 use arc_core::ArcCore;
 use batch::Counts;
@@ -99,248 +99,190 @@ fn place_of(c: usize, list: usize, cell: usize) -> usize
     0
 }
 
-fn put_page(area: &[u64], c: usize, list: usize, cell: usize, out: &mut [u8], at: usize) -> usize
+fn put_page(area: &[u64], c: usize, list: usize, cell: usize)
     requires { ⌜ c ≤ 1024 ⌝ }
 {
     let place = place_of(c, list, cell);
     let page = page_of(area, c, place);
-    telling::field(out, at, b" ", page)
+    telling::field(b" ", page);
 }
 
 // The pages of so many cells of the ring of a sentinel, from its first on.
-fn put_ring(
-    area: &[u64],
-    links: usize,
-    sentinel: usize,
-    n: usize,
-    c: usize,
-    list: usize,
-    out: &mut [u8],
-    at: usize,
-) -> usize
+fn put_ring(area: &[u64], links: usize, sentinel: usize, n: usize, c: usize, list: usize)
     requires { ⌜ c ≤ 1024 ⌝ }
 {
-    let mut place = at;
     let mut cell = next(area, links, sentinel);
     let mut left = n;
     while left > 0 {
-        place = put_page(area, c, list, cell, out, place);
+        put_page(area, c, list, cell);
         cell = next(area, links, cell);
         left -= 1;
     }
-    place
 }
 
-fn put_t1(area: &[u64], c: usize, out: &mut [u8], at: usize) -> usize
+fn put_t1(area: &[u64], c: usize)
     requires { ⌜ c ≤ 1024 ⌝ }
 {
     let n = count(area, 43);
-    let place = telling::word(out, at, b"; T1");
-    put_ring(area, 3 * c + 46, c, n, c, 0, out, place)
+    telling::word(b"; T1");
+    put_ring(area, 3 * c + 46, c, n, c, 0);
 }
 
-fn put_t2(area: &[u64], c: usize, out: &mut [u8], at: usize) -> usize
+fn put_t2(area: &[u64], c: usize)
     requires { ⌜ c ≤ 1024 ⌝ }
 {
     let n = count(area, 44);
-    let place = telling::word(out, at, b"; T2");
-    put_ring(area, 3 * c + 46, c + 1, n, c, 1, out, place)
+    telling::word(b"; T2");
+    put_ring(area, 3 * c + 46, c + 1, n, c, 1);
 }
 
-fn put_b1(area: &[u64], c: usize, out: &mut [u8], at: usize) -> usize
+fn put_b1(area: &[u64], c: usize)
     requires { ⌜ c ≤ 1024 ⌝ }
 {
     let start = 5 * c + 52;
     let n = count(area, start);
-    let place = telling::word(out, at, b"; B1");
-    put_ring(area, start + 1, c, n, c, 2, out, place)
+    telling::word(b"; B1");
+    put_ring(area, start + 1, c, n, c, 2);
 }
 
-fn put_b2(area: &[u64], c: usize, out: &mut [u8], at: usize) -> usize
+fn put_b2(area: &[u64], c: usize)
     requires { ⌜ c ≤ 1024 ⌝ }
 {
     let start = 7 * c + 57;
     let n = count(area, start);
-    let place = telling::word(out, at, b"; B2");
-    put_ring(area, start + 1, c, n, c, 3, out, place)
+    telling::word(b"; B2");
+    put_ring(area, start + 1, c, n, c, 3);
 }
 
-fn put_target(area: &[u64], out: &mut [u8], at: usize) -> usize {
+fn put_target(area: &[u64]) {
     let target = word(area, 2);
-    telling::field(out, at, b"; target ", target)
+    telling::field(b"; target ", target);
 }
 
-fn put_residents(area: &[u64], c: usize, out: &mut [u8], at: usize) -> usize
-    requires { ⌜ c ≤ 1024 ⌝ }
-{
-    let place = put_t1(area, c, out, at);
-    put_t2(area, c, out, place)
+fn put_record(r: Record) {
+    telling::field(b" ", r.page);
 }
 
-fn put_ghosts(area: &[u64], c: usize, out: &mut [u8], at: usize) -> usize
-    requires { ⌜ c ≤ 1024 ⌝ }
-{
-    let place = put_b1(area, c, out, at);
-    put_b2(area, c, out, place)
-}
-
-fn put_record(out: &mut [u8], at: usize, r: Record) -> usize {
-    let page = r.page;
-    telling::field(out, at, b" ", page)
-}
-
-fn put_records(records: [Record; 1024], n: usize, out: &mut [u8], at: usize) -> usize {
-    let mut place = at;
+fn put_records(records: [Record; 1024], n: usize) {
     let mut i: usize = 0;
     while i < 1024 {
         if i >= n {
-            return place;
+            return;
         }
         let r = records[i];
-        place = put_record(out, place, r);
+        put_record(r);
         i += 1;
     }
-    place
 }
 
 // The pages that a listing gives.
-fn put_list(area: &[u64], kind: Kind, out: &mut [u8], at: usize) -> usize {
+fn put_list(area: &[u64], kind: Kind) {
     let plan = listing::prepare(area, kind, 1024);
     let n = plan.count;
     let records = listing::list_all(area, kind);
-    let place = telling::word(out, at, b"; list");
-    put_records(records, n, out, place)
+    telling::word(b"; list");
+    put_records(records, n);
 }
 
-fn put_facts(area: &[u64], kind: Kind, out: &mut [u8], at: usize) -> usize {
+fn put_facts(area: &[u64], kind: Kind) {
     let c = capacity(area);
-    let residents = put_residents(area, c, out, at);
-    let ghosts = put_ghosts(area, c, out, residents);
-    let target = put_target(area, out, ghosts);
-    put_list(area, kind, out, target)
+    put_t1(area, c);
+    put_t2(area, c);
+    put_b1(area, c);
+    put_b2(area, c);
+    put_target(area);
+    put_list(area, kind);
 }
 
 // ---- the answers
 
-fn put_place(place: Place, out: &mut [u8], at: usize) -> usize {
+fn put_place(place: Place) {
     match place {
-        Place::B1 => telling::word(out, at, b" b1"),
-        Place::B2 => telling::word(out, at, b" b2"),
+        Place::B1 => telling::word(b" b1"),
+        Place::B2 => telling::word(b" b2"),
     }
 }
 
-fn put_out(page: u64, frame: u32, place: Place, steps: u64, out: &mut [u8], at: usize) -> usize {
-    let first = telling::field(out, at, b" new out ", page);
-    let second = telling::field(out, first, b" ", frame as u64);
-    let third = put_place(place, out, second);
-    telling::field(out, third, b" by ", steps)
+fn put_out(page: u64, frame: u32, place: Place, steps: u64) {
+    telling::field(b" new out ", page);
+    telling::field(b" ", frame as u64);
+    put_place(place);
+    telling::field(b" by ", steps);
 }
 
-fn put_inserted(r: Inserted, out: &mut [u8], at: usize) -> usize {
+fn put_inserted(r: Inserted) {
     match r {
-        Inserted::New => telling::word(out, at, b" new"),
+        Inserted::New => telling::word(b" new"),
         Inserted::Out {
             page,
             frame,
             place,
             steps,
-        } => put_out(page, frame, place, steps, out, at),
-        Inserted::Old(frame) => telling::field(out, at, b" old ", frame as u64),
-        Inserted::None => telling::word(out, at, b" none"),
-        Inserted::Refused => telling::word(out, at, b" refused"),
+        } => put_out(page, frame, place, steps),
+        Inserted::Old(frame) => telling::field(b" old ", frame as u64),
+        Inserted::None => telling::word(b" none"),
+        Inserted::Refused => telling::word(b" refused"),
     }
 }
 
-fn put_got(r: Got, out: &mut [u8], at: usize) -> usize {
+fn put_got(r: Got) {
     match r {
-        Got::Hit(frame) => telling::field(out, at, b" hit ", frame as u64),
-        Got::Miss => telling::word(out, at, b" miss"),
-        Got::Refused => telling::word(out, at, b" refused"),
+        Got::Hit(frame) => telling::field(b" hit ", frame as u64),
+        Got::Miss => telling::word(b" miss"),
+        Got::Refused => telling::word(b" refused"),
     }
 }
 
-fn put_gone(r: Gone, out: &mut [u8], at: usize) -> usize {
+fn put_gone(r: Gone) {
     match r {
-        Gone::Frame(frame) => telling::field(out, at, b" gone ", frame as u64),
-        Gone::Absent => telling::word(out, at, b" absent"),
-        Gone::Refused => telling::word(out, at, b" refused"),
+        Gone::Frame(frame) => telling::field(b" gone ", frame as u64),
+        Gone::Absent => telling::word(b" absent"),
+        Gone::Refused => telling::word(b" refused"),
     }
 }
 
-fn put_seen(r: Seen, out: &mut [u8], at: usize) -> usize {
+fn put_seen(r: Seen) {
     match r {
-        Seen::See(frame) => telling::field(out, at, b" see ", frame as u64),
-        Seen::No => telling::word(out, at, b" no"),
-        Seen::Refused => telling::word(out, at, b" refused"),
-    }
-}
-
-fn put_answer(reply: Reply, out: &mut [u8], at: usize) -> usize {
-    match reply {
-        Reply::Got(r) => put_got(r, out, at),
-        Reply::Inserted(r) => put_inserted(r, out, at),
-        Reply::Gone(r) => put_gone(r, out, at),
-        Reply::Cleared => telling::word(out, at, b" clear"),
-        Reply::Seen(r) => put_seen(r, out, at),
+        Seen::See(frame) => telling::field(b" see ", frame as u64),
+        Seen::No => telling::word(b" no"),
+        Seen::Refused => telling::word(b" refused"),
     }
 }
 
 // ---- the calls
 
-fn arc_call(area: &mut [u64], op: Operation) -> Reply {
-    match op {
-        Operation::Get { page } => {
-            let r = ArcCore::get(area, page);
-            Reply::Got(r)
-        }
-        Operation::Insert { page, frame } => {
-            let r = ArcCore::insert(area, page, frame);
-            Reply::Inserted(r)
-        }
-        Operation::Remove { page } => {
-            let r = ArcCore::remove(area, page);
-            Reply::Gone(r)
-        }
-        Operation::Clear => {
-            ArcCore::clear(area);
-            Reply::Cleared
-        }
-        Operation::Peek { page } => {
-            let r = ArcCore::peek(area, page);
-            Reply::Seen(r)
-        }
-    }
-}
-
-fn car_call(area: &mut [u64], op: Operation) -> Reply {
-    match op {
-        Operation::Get { page } => {
-            let r = CarCore::get(area, page);
-            Reply::Got(r)
-        }
-        Operation::Insert { page, frame } => {
-            let r = CarCore::insert(area, page, frame);
-            Reply::Inserted(r)
-        }
-        Operation::Remove { page } => {
-            let r = CarCore::remove(area, page);
-            Reply::Gone(r)
-        }
-        Operation::Clear => {
-            CarCore::clear(area);
-            Reply::Cleared
-        }
-        Operation::Peek { page } => {
-            let r = CarCore::peek(area, page);
-            Reply::Seen(r)
-        }
-    }
-}
-
-fn call(area: &mut [u64], kind: Kind, op: Operation) -> Reply {
+fn get(area: &mut [u64], kind: Kind, page: u64) -> Got {
     match kind {
-        Kind::Arc => arc_call(area, op),
-        Kind::Car => car_call(area, op),
+        Kind::Arc => ArcCore::get(area, page),
+        Kind::Car => CarCore::get(area, page),
+    }
+}
+
+fn insert(area: &mut [u64], kind: Kind, page: u64, frame: u32) -> Inserted {
+    match kind {
+        Kind::Arc => ArcCore::insert(area, page, frame),
+        Kind::Car => CarCore::insert(area, page, frame),
+    }
+}
+
+fn remove(area: &mut [u64], kind: Kind, page: u64) -> Gone {
+    match kind {
+        Kind::Arc => ArcCore::remove(area, page),
+        Kind::Car => CarCore::remove(area, page),
+    }
+}
+
+fn peek(area: &[u64], kind: Kind, page: u64) -> Seen {
+    match kind {
+        Kind::Arc => ArcCore::peek(area, page),
+        Kind::Car => CarCore::peek(area, page),
+    }
+}
+
+fn clear(area: &mut [u64], kind: Kind) -> Cleared {
+    match kind {
+        Kind::Arc => ArcCore::clear(area),
+        Kind::Car => CarCore::clear(area),
     }
 }
 
@@ -358,147 +300,156 @@ fn tally(area: &mut [u64], kind: Kind, trace: &[u8], lent: Counts) -> Tally {
     }
 }
 
-fn run_one(area: &mut [u64], kind: Kind, op: Operation, out: &mut [u8], at: usize) -> usize {
-    let reply = call(area, kind, op);
-    put_answer(reply, out, at)
+// Each call with its answer.
+fn run_get(area: &mut [u64], kind: Kind, page: u64) {
+    let r = get(area, kind, page);
+    put_got(r);
+}
+
+fn run_insert(area: &mut [u64], kind: Kind, page: u64, frame: u32) {
+    let r = insert(area, kind, page, frame);
+    put_inserted(r);
+}
+
+fn run_remove(area: &mut [u64], kind: Kind, page: u64) {
+    let r = remove(area, kind, page);
+    put_gone(r);
+}
+
+fn run_clear(area: &mut [u64], kind: Kind) {
+    clear(area, kind);
+    telling::word(b" clear");
+}
+
+fn run_peek(area: &[u64], kind: Kind, page: u64) {
+    let r = peek(area, kind, page);
+    put_seen(r);
+}
+
+fn run_one(area: &mut [u64], kind: Kind, op: Operation) {
+    match op {
+        Operation::Get { page } => run_get(area, kind, page),
+        Operation::Insert { page, frame } => run_insert(area, kind, page, frame),
+        Operation::Remove { page } => run_remove(area, kind, page),
+        Operation::Clear => run_clear(area, kind),
+        Operation::Peek { page } => run_peek(area, kind, page),
+    }
 }
 
 // The operations of a trace as calls, with their answers.
-fn run_all(area: &mut [u64], kind: Kind, trace: &[u8], out: &mut [u8], at: usize) -> usize {
+fn run_all(area: &mut [u64], kind: Kind, trace: &[u8]) {
     let mut cursor = Cursor::new();
-    let mut place = at;
     let mut turns: usize = 1024;
     while turns > 0 {
         let step = cursor.step(trace);
         let found = step.found;
         match found {
             Found::Read(op) => {
-                place = run_one(area, kind, op, out, place);
+                run_one(area, kind, op);
                 cursor = step.cursor;
             }
             Found::End => {
-                return place;
+                return;
             }
             Found::Refused { number, .. } => {
-                return telling::field(out, place, b" refusal ", number as u64);
+                telling::field(b" refusal ", number as u64);
+                return;
             }
         }
         turns -= 1;
     }
-    place
 }
 
 // A bench case: an empty cache, the operations, and the state after them.
-fn bench(
-    area: &mut [u64],
-    name: &[u8],
-    kind: Kind,
-    c: u64,
-    trace: &[u8],
-    out: &mut [u8],
-    at: usize,
-) -> usize {
+fn bench(area: &mut [u64], name: &[u8], kind: Kind, c: u64, trace: &[u8]) {
+    telling::word(name);
     make(area, kind, c);
-    let named = telling::word(out, at, name);
-    let answered = run_all(area, kind, trace, out, named);
-    let told = put_facts(area, kind, out, answered);
-    telling::byte(out, told, b'\n')
+    run_all(area, kind, trace);
+    put_facts(area, kind);
+    telling::word(b"\n");
 }
 
-fn one_to_four(area: &mut [u64], out: &mut [u8], at: usize) -> usize {
-    let p1 = bench(
+// The operations of P1 and P2 are the same, and those of P4 and P7.
+fn p1_or_p2(area: &mut [u64], name: &[u8], kind: Kind) {
+    bench(
         area,
-        b"P1",
-        Kind::Arc,
+        name,
+        kind,
         2,
         b"\x02\x05\x0A\x02\x06\x0B\x01\x05\x02\x07\x0C\x02\x05\x0D",
-        out,
-        at,
     );
-    let p2 = bench(
-        area,
-        b"P2",
-        Kind::Car,
-        2,
-        b"\x02\x05\x0A\x02\x06\x0B\x01\x05\x02\x07\x0C\x02\x05\x0D",
-        out,
-        p1,
-    );
-    let p3 = bench(
+}
+
+fn p3(area: &mut [u64]) {
+    bench(
         area,
         b"P3",
         Kind::Arc,
         1,
         b"\x02\x08\x50\x01\x08\x02\x09\x5A\x02\x0A\x64",
-        out,
-        p2,
     );
-    bench(
-        area,
-        b"P4",
-        Kind::Arc,
-        2,
-        b"\x02\x01\x0B\x02\x02\x0C\x02\x03\x0D\x03\x02\x02\x04\x0E",
-        out,
-        p3,
-    )
 }
 
-fn five_and_six(area: &mut [u64], out: &mut [u8], at: usize) -> usize {
-    let p5 = bench(
+fn p4_or_p7(area: &mut [u64], name: &[u8], kind: Kind, c: u64) {
+    bench(
+        area,
+        name,
+        kind,
+        c,
+        b"\x02\x01\x0B\x02\x02\x0C\x02\x03\x0D\x03\x02\x02\x04\x0E",
+    );
+}
+
+fn p5(area: &mut [u64]) {
+    bench(
         area,
         b"P5",
         Kind::Arc,
         2,
         b"\x02\x01\x0B\x02\x02\x0C\x02\x03\x0D\x02\x01\x0E",
-        out,
-        at,
     );
+}
+
+fn p6(area: &mut [u64]) {
     bench(
         area,
         b"P6",
         Kind::Car,
         2,
         b"\x02\x01\x0B\x02\x02\x0C\x01\x01\x01\x02\x02\x03\x0D",
-        out,
-        p5,
-    )
+    );
 }
 
-fn seven_and_eight(area: &mut [u64], out: &mut [u8], at: usize) -> usize {
-    let p7 = bench(
-        area,
-        b"P7",
-        Kind::Car,
-        3,
-        b"\x02\x01\x0B\x02\x02\x0C\x02\x03\x0D\x03\x02\x02\x04\x0E",
-        out,
-        at,
-    );
-    let arc = bench(
-        area,
-        b"P8 ARC",
-        Kind::Arc,
-        0,
-        b"\x02\x01\x0B\x01\x01",
-        out,
-        p7,
-    );
-    bench(
-        area,
-        b"P8 CAR",
-        Kind::Car,
-        0,
-        b"\x02\x01\x0B\x01\x01",
-        out,
-        arc,
-    )
+fn p8(area: &mut [u64], name: &[u8], kind: Kind) {
+    bench(area, name, kind, 0, b"\x02\x01\x0B\x01\x01");
 }
 
-fn benches(area: &mut [u64], out: &mut [u8]) -> usize {
-    let four = one_to_four(area, out, 0);
-    let six = five_and_six(area, out, four);
-    seven_and_eight(area, out, six)
+fn one_and_two(area: &mut [u64]) {
+    p1_or_p2(area, b"P1", Kind::Arc);
+    p1_or_p2(area, b"P2", Kind::Car);
+}
+
+fn three_and_four(area: &mut [u64]) {
+    p3(area);
+    p4_or_p7(area, b"P4", Kind::Arc, 2);
+}
+
+fn five_to_seven(area: &mut [u64]) {
+    p5(area);
+    p6(area);
+    p4_or_p7(area, b"P7", Kind::Car, 3);
+}
+
+fn eight(area: &mut [u64]) {
+    p8(area, b"P8 ARC", Kind::Arc);
+    p8(area, b"P8 CAR", Kind::Car);
+}
+
+fn benches(area: &mut [u64]) {
+    one_and_two(area);
+    three_and_four(area);
+    five_to_seven(area);
+    eight(area);
 }
 
 // ---- the refusals
@@ -532,58 +483,68 @@ fn same(area: &[u64], other: &[u64]) -> bool {
     true
 }
 
-fn put_same(area: &[u64], other: &[u64], out: &mut [u8], at: usize) -> usize {
+fn put_same(area: &[u64], other: &[u64]) {
     if same(area, other) {
-        return telling::word(out, at, b", area unchanged\n");
+        telling::word(b", area unchanged\n");
+        return;
     }
-    telling::word(out, at, b", area changed\n")
+    telling::word(b", area changed\n");
 }
 
-fn put_after(area: &[u64], other: &[u64], out: &mut [u8], at: usize) -> usize {
+fn put_after(area: &[u64], other: &[u64]) {
     if same(area, other) {
-        return telling::word(out, at, b", area as after the operations done\n");
+        telling::word(b", area as after the operations done\n");
+        return;
     }
-    telling::word(out, at, b", area not as after the operations done\n")
+    telling::word(b", area not as after the operations done\n");
 }
 
-fn put_made(made: Made, out: &mut [u8], at: usize) -> usize {
+fn put_made(made: Made) {
     match made {
-        Made::Made => telling::word(out, at, b"made"),
-        Made::Refused(n) => telling::field(out, at, b"refusal ", n as u64),
+        Made::Made => telling::word(b"made"),
+        Made::Refused(n) => telling::field(b"refusal ", n as u64),
+    }
+}
+
+fn put_kind(kind: Kind) {
+    match kind {
+        Kind::Arc => telling::word(b", ARC: "),
+        Kind::Car => telling::word(b", CAR: "),
+    }
+}
+
+// The words of an area that has fewer than the largest cache needs.
+fn put_words(area: &[u64]) {
+    let n = area.len();
+    if n < 24640 {
+        telling::field(b" in ", n as u64);
+        telling::word(b" words");
     }
 }
 
 // `new` on an area whose words are known.
-fn try_new(
-    area: &mut [u64],
-    other: &mut [u64],
-    name: &[u8],
-    kind: Kind,
-    c: u64,
-    out: &mut [u8],
-    at: usize,
-) -> usize {
+fn try_new(area: &mut [u64], other: &mut [u64], kind: Kind, c: u64) {
+    telling::field(b"new ", c);
+    put_words(area);
+    put_kind(kind);
     copy(area, other);
-    let named = telling::word(out, at, name);
     let made = make(area, kind, c);
-    let told = put_made(made, out, named);
-    put_same(area, other, out, told)
+    put_made(made);
+    put_same(area, other);
 }
 
-// A call that is refused as the area is of the other policy.
-fn try_call(
-    area: &mut [u64],
-    other: &mut [u64],
-    name: &[u8],
-    kind: Kind,
-    trace: &[u8],
-    out: &mut [u8],
-    at: usize,
-) -> usize {
+fn try_both(area: &mut [u64], other: &mut [u64], c: u64) {
+    try_new(area, other, Kind::Arc, c);
+    try_new(area, other, Kind::Car, c);
+}
+
+// Calls that are refused as the area is of ARC and they are of CAR.
+fn try_call(area: &mut [u64], other: &mut [u64], name: &[u8], trace: &[u8]) {
+    telling::word(name);
+    telling::word(b", an ARC area given to CAR:");
     copy(area, other);
-    let named = telling::word(out, at, name);
-    let told = run_all(area, kind, trace, out, named);
-    put_same(area, other, out, told)
+    run_all(area, Kind::Car, trace);
+    put_same(area, other);
 }
 
 fn sevens() -> Counts {
@@ -598,114 +559,64 @@ fn sevens() -> Counts {
     }
 }
 
-fn put_some(out: &mut [u8], at: usize, n: Counts) -> usize {
-    let gets = n.gets;
-    let hits = n.get_hits;
-    let updates = n.updates;
-    let place = telling::field(out, at, b", counts ", gets);
-    let place = telling::field(out, place, b" ", hits);
-    telling::field(out, place, b" ", updates)
+fn put_count(n: u64) {
+    telling::field(b" ", n);
 }
 
-fn put_others(out: &mut [u8], at: usize, n: Counts) -> usize {
-    let news = n.new_pages;
-    let evictions = n.evictions;
-    let steps = n.steps;
-    let removals = n.removals;
-    let place = telling::field(out, at, b" ", news);
-    let place = telling::field(out, place, b" ", evictions);
-    let place = telling::field(out, place, b" ", steps);
-    telling::field(out, place, b" ", removals)
+fn put_counts(n: Counts) {
+    telling::word(b", counts");
+    put_count(n.gets);
+    put_count(n.get_hits);
+    put_count(n.updates);
+    put_count(n.new_pages);
+    put_count(n.evictions);
+    put_count(n.steps);
+    put_count(n.removals);
 }
 
-fn put_counts(out: &mut [u8], at: usize, n: Counts) -> usize {
-    let place = put_some(out, at, n);
-    put_others(out, place, n)
+fn put_stopped(number: u8, offset: u64) {
+    telling::field(b"refusal ", number as u64);
+    telling::field(b" at ", offset);
 }
 
-fn put_ran(ran: Ran, out: &mut [u8], at: usize) -> usize {
+fn put_ran(ran: Ran) {
     match ran {
-        Ran::Done(n) => telling::field(out, at, b"done ", n),
-        Ran::Stopped { number, offset } => {
-            let place = telling::field(out, at, b"refusal ", number as u64);
-            telling::field(out, place, b" at ", offset)
-        }
-        Ran::Refused => telling::word(out, at, b"refusal 3"),
+        Ran::Done(n) => telling::field(b"done ", n),
+        Ran::Stopped { number, offset } => put_stopped(number, offset),
+        Ran::Refused => telling::word(b"refusal 3"),
     }
 }
 
-// A batch, with lent counts of seven each; then whether the area is what the operations before the refusal make of it.
-fn try_batch(
-    area: &mut [u64],
-    other: &[u64],
-    name: &[u8],
-    kind: Kind,
-    trace: &[u8],
-    out: &mut [u8],
-    at: usize,
-) -> usize {
+// A batch, with lent counts of seven each.
+fn run_batch(area: &mut [u64], kind: Kind, trace: &[u8]) {
     let t = tally(area, kind, trace, sevens());
     let ran = t.ran;
     let counts = t.counts;
-    let named = telling::word(out, at, name);
-    let told = put_ran(ran, out, named);
-    let counted = put_counts(out, told, counts);
-    put_after(area, other, out, counted)
+    put_ran(ran);
+    put_counts(counts);
 }
 
-fn put_listed(area: &[u64], kind: Kind, room: usize, out: &mut [u8], at: usize) -> usize {
-    let plan = listing::prepare(area, kind, room);
-    let answer = plan.answer;
+// A batch; then whether the area is what the operations before the refusal make of it.
+fn try_batch(area: &mut [u64], other: &[u64], name: &[u8], kind: Kind, trace: &[u8]) {
+    telling::word(name);
+    run_batch(area, kind, trace);
+    put_after(area, other);
+}
+
+fn put_listed(answer: Listed) {
     match answer {
-        Listed::Count(n) => telling::field(out, at, b"listed ", n),
-        Listed::Room => telling::word(out, at, b"refusal 6"),
-        Listed::Refused => telling::word(out, at, b"refusal 3"),
+        Listed::Count(n) => telling::field(b"listed ", n),
+        Listed::Room => telling::word(b"refusal 6"),
+        Listed::Refused => telling::word(b"refusal 3"),
     }
 }
 
-fn try_listing(
-    area: &[u64],
-    name: &[u8],
-    kind: Kind,
-    room: usize,
-    out: &mut [u8],
-    at: usize,
-) -> usize {
-    let named = telling::word(out, at, name);
-    let told = put_listed(area, kind, room, out, named);
-    telling::byte(out, told, b'\n')
-}
-
-// Refusals 1 and 2, and what is barely not refused.
-fn too_large(area: &mut [u64], other: &mut [u64], out: &mut [u8], at: usize) -> usize {
-    let a = try_new(area, other, b"new 1025, ARC: ", Kind::Arc, 1025, out, at);
-    try_new(area, other, b"new 1025, CAR: ", Kind::Car, 1025, out, a)
-}
-
-fn largest(area: &mut [u64], other: &mut [u64], out: &mut [u8], at: usize) -> usize {
-    let a = try_new(area, other, b"new 1024, ARC: ", Kind::Arc, 1024, out, at);
-    try_new(area, other, b"new 1024, CAR: ", Kind::Car, 1024, out, a)
-}
-
-fn one_short(area: &mut [u64], other: &mut [u64], out: &mut [u8], at: usize) -> usize {
-    let a = try_new(
-        area,
-        other,
-        b"new 1024 in 24639 words, ARC: ",
-        Kind::Arc,
-        1024,
-        out,
-        at,
-    );
-    try_new(
-        area,
-        other,
-        b"new 1024 in 24639 words, CAR: ",
-        Kind::Car,
-        1024,
-        out,
-        a,
-    )
+fn try_listing(area: &[u64], name: &[u8], room: usize) {
+    telling::word(name);
+    let plan = listing::prepare(area, Kind::Car, room);
+    let answer = plan.answer;
+    put_listed(answer);
+    telling::word(b"\n");
 }
 
 // One word less than the largest cache needs.
@@ -715,170 +626,131 @@ fn short_words() -> [u64; 24639]
     [7; 24639]
 }
 
-fn shorts(other: &mut [u64], out: &mut [u8], at: usize) -> usize {
+fn shorts(other: &mut [u64]) {
     let mut short = short_words();
-    one_short(&mut short, other, out, at)
+    try_both(&mut short, other, 1024);
 }
 
-fn sizes(area: &mut [u64], other: &mut [u64], out: &mut [u8], at: usize) -> usize {
-    let a = too_large(area, other, out, at);
-    let b = largest(area, other, out, a);
-    shorts(other, out, b)
+// Refusals 1 and 2, and what is barely not refused.
+fn sizes(area: &mut [u64], other: &mut [u64]) {
+    try_both(area, other, 1025);
+    try_both(area, other, 1024);
+    shorts(other);
 }
 
 // Refusal 3: an area of ARC given to CAR.
-fn strange_hits(area: &mut [u64], other: &mut [u64], out: &mut [u8], at: usize) -> usize {
-    let a = try_call(
-        area,
-        other,
-        b"get, an ARC area given to CAR:",
-        Kind::Car,
-        b"\x01\x05",
-        out,
-        at,
-    );
-    try_call(
-        area,
-        other,
-        b"insert, an ARC area given to CAR:",
-        Kind::Car,
-        b"\x02\x05\x0A",
-        out,
-        a,
-    )
+fn strange_get(area: &mut [u64], other: &mut [u64]) {
+    try_call(area, other, b"get", b"\x01\x05");
 }
 
-fn strange_others(area: &mut [u64], other: &mut [u64], out: &mut [u8], at: usize) -> usize {
-    let a = try_call(
-        area,
-        other,
-        b"remove, an ARC area given to CAR:",
-        Kind::Car,
-        b"\x03\x05",
-        out,
-        at,
-    );
-    try_call(
-        area,
-        other,
-        b"peek, an ARC area given to CAR:",
-        Kind::Car,
-        b"\x05\x05",
-        out,
-        a,
-    )
+fn strange_insert(area: &mut [u64], other: &mut [u64]) {
+    try_call(area, other, b"insert", b"\x02\x05\x0A");
 }
 
-fn strange_batch(area: &mut [u64], other: &mut [u64], out: &mut [u8], at: usize) -> usize {
+fn strange_remove(area: &mut [u64], other: &mut [u64]) {
+    try_call(area, other, b"remove", b"\x03\x05");
+}
+
+fn strange_peek(area: &mut [u64], other: &mut [u64]) {
+    try_call(area, other, b"peek", b"\x05\x05");
+}
+
+fn strange_calls(area: &mut [u64], other: &mut [u64]) {
+    strange_get(area, other);
+    strange_insert(area, other);
+    strange_remove(area, other);
+    strange_peek(area, other);
+}
+
+fn strange_batch(area: &mut [u64], other: &mut [u64]) {
     copy(area, other);
-    let a = try_batch(
+    try_batch(
         area,
         other,
         b"batch, an ARC area given to CAR: ",
         Kind::Car,
         b"\x01\x05",
-        out,
-        at,
     );
-    try_listing(
-        area,
-        b"listing, an ARC area given to CAR: ",
-        Kind::Car,
-        9,
-        out,
-        a,
-    )
 }
 
-fn strangers(area: &mut [u64], other: &mut [u64], out: &mut [u8], at: usize) -> usize {
+fn strangers(area: &mut [u64], other: &mut [u64]) {
     make(area, Kind::Arc, 2);
-    let a = strange_hits(area, other, out, at);
-    let b = strange_others(area, other, out, a);
-    strange_batch(area, other, out, b)
+    strange_calls(area, other);
+    strange_batch(area, other);
+    try_listing(area, b"listing, an ARC area given to CAR: ", 9);
 }
 
 // Refusals 4 and 5, and an empty trace: `other` has the state after the operations that are done.
-fn no_bytes(area: &mut [u64], other: &mut [u64], out: &mut [u8], at: usize) -> usize {
-    make(area, Kind::Arc, 2);
-    copy(area, other);
-    try_batch(area, other, b"batch of no bytes: ", Kind::Arc, b"", out, at)
+fn no_bytes(area: &mut [u64], other: &[u64]) {
+    try_batch(area, other, b"batch of no bytes: ", Kind::Arc, b"");
 }
 
-fn first_stops(area: &mut [u64], other: &mut [u64], out: &mut [u8], at: usize) -> usize {
-    let a = try_batch(area, other, b"batch 06: ", Kind::Arc, b"\x06", out, at);
+fn no_code(area: &mut [u64], other: &[u64]) {
+    try_batch(area, other, b"batch 06: ", Kind::Arc, b"\x06");
+}
+
+fn not_shortest(area: &mut [u64], other: &[u64]) {
+    try_batch(area, other, b"batch 01 80 00: ", Kind::Arc, b"\x01\x80\x00");
+}
+
+fn code_later(area: &mut [u64], other: &[u64]) {
     try_batch(
-        area,
-        other,
-        b"batch 01 80 00: ",
-        Kind::Arc,
-        b"\x01\x80\x00",
-        out,
-        a,
-    )
-}
-
-fn later_stops(area: &mut [u64], other: &mut [u64], out: &mut [u8], at: usize) -> usize {
-    ArcCore::insert(other, 5, 10);
-    let a = try_batch(
         area,
         other,
         b"batch 02 05 0A 00: ",
         Kind::Arc,
         b"\x02\x05\x0A\x00",
-        out,
-        at,
     );
+}
+
+fn number_missing(area: &mut [u64], other: &[u64]) {
     try_batch(
         area,
         other,
         b"batch 04 02 05 0A 02 06: ",
         Kind::Arc,
         b"\x04\x02\x05\x0A\x02\x06",
-        out,
-        a,
-    )
+    );
 }
 
-fn stops(area: &mut [u64], other: &mut [u64], out: &mut [u8], at: usize) -> usize {
-    let a = no_bytes(area, other, out, at);
-    let b = first_stops(area, other, out, a);
-    later_stops(area, other, out, b)
+fn first_stops(area: &mut [u64], other: &[u64]) {
+    no_bytes(area, other);
+    no_code(area, other);
+    not_shortest(area, other);
+}
+
+fn later_stops(area: &mut [u64], other: &[u64]) {
+    code_later(area, other);
+    number_missing(area, other);
+}
+
+fn stops(area: &mut [u64], other: &mut [u64]) {
+    make(area, Kind::Arc, 2);
+    copy(area, other);
+    first_stops(area, other);
+    ArcCore::insert(other, 5, 10);
+    later_stops(area, other);
 }
 
 // Refusal 6: two residents.
-fn rooms(area: &mut [u64], out: &mut [u8], at: usize) -> usize {
+fn two_residents(area: &mut [u64]) {
     make(area, Kind::Car, 3);
     CarCore::insert(area, 5, 10);
     CarCore::insert(area, 6, 11);
-    let a = try_listing(
-        area,
-        b"listing of two residents into one record: ",
-        Kind::Car,
-        1,
-        out,
-        at,
-    );
-    try_listing(
-        area,
-        b"listing of two residents into two records: ",
-        Kind::Car,
-        2,
-        out,
-        a,
-    )
 }
 
-fn refusals(area: &mut [u64], other: &mut [u64], out: &mut [u8], at: usize) -> usize {
-    let a = sizes(area, other, out, at);
-    let b = strangers(area, other, out, a);
-    stops(area, other, out, b)
+fn rooms(area: &mut [u64]) {
+    two_residents(area);
+    try_listing(area, b"listing of two residents into one record: ", 1);
+    try_listing(area, b"listing of two residents into two records: ", 2);
 }
 
-fn run(area: &mut [u64], other: &mut [u64], out: &mut [u8]) {
-    let a = benches(area, out);
-    let b = refusals(area, other, out, a);
-    let c = rooms(area, out, b);
-    telling::flush(out, c);
+fn run(area: &mut [u64], other: &mut [u64]) {
+    benches(area);
+    sizes(area, other);
+    strangers(area, other);
+    stops(area, other);
+    rooms(area);
 }
 
 // An area for the largest cache: 24 * 1,024 + 64 words.
@@ -891,6 +763,5 @@ fn words() -> [u64; 24640]
 fn main() {
     let mut area = words();
     let mut other = words();
-    let mut out = io::large_buffer();
-    run(&mut area, &mut other, &mut out);
+    run(&mut area, &mut other);
 }

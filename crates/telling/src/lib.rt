@@ -1,78 +1,29 @@
-// What the test programs read and write. Text: bytes, words and numbers in decimal are put into a lent buffer, which goes to standard output when little of it is
-// left. Each writer answers the position behind what it put. Nothing is asked of a position: past the buffer nothing is put.
+// What the test programs read and write. Text goes to standard output at once, with no buffer to be lent: a call then lends one slice at most, and the proofs of the
+// test programs, whose cost grows with every loan, stay small.
 use libc::STDIN_FILENO;
 use libc::STDOUT_FILENO;
 
-// One byte.
-pub fn byte(out: &mut [u8], at: usize, b: u8) -> usize {
-    if at < out.len() {
-        out[at] = b;
-        return at + 1;
-    }
-    at
-}
-
 // The bytes of a word.
-pub fn word(out: &mut [u8], at: usize, text: &[u8]) -> usize {
-    let mut place = at;
-    let mut i: usize = 0;
-    while i < text.len() {
-        let b = text[i];
-        place = byte(out, place, b);
-        i += 1;
-    }
-    place
-}
-
-// The digit of n that stands for so many; none before the first digit.
-fn digit(out: &mut [u8], at: usize, n: u64, scale: u64) -> usize {
-    if scale == 0 {
-        return at;
-    }
-    let upper = n / scale;
-    if upper == 0 {
-        if scale > 1 {
-            return at;
-        }
-    }
-    let d = upper % 10;
-    byte(out, at, b'0' + d as u8)
+pub fn word(text: &[u8]) {
+    io::write_all(STDOUT_FILENO, text);
 }
 
 // A number in decimal.
-pub fn number(out: &mut [u8], at: usize, n: u64) -> usize {
-    let mut place = at;
-    let mut scale: u64 = 10000000000000000000;
-    while scale > 0 {
-        place = digit(out, place, n, scale);
-        scale = scale / 10;
-    }
-    place
+pub fn number(n: u64) {
+    io::print_decimal(STDOUT_FILENO, n);
 }
 
 // A word and a number.
-pub fn field(out: &mut [u8], at: usize, text: &[u8], n: u64) -> usize {
-    let place = word(out, at, text);
-    number(out, place, n)
+pub fn field(text: &[u8], n: u64) {
+    word(text);
+    number(n);
 }
 
-// Writes what was put, and answers the buffer's first position.
-pub fn flush(out: &[u8], at: usize) -> usize {
+// The first bytes of a buffer; nothing where it has fewer.
+pub fn flush(out: &[u8], at: usize) {
     if at <= out.len() {
-        io::write_all(STDOUT_FILENO, &out[..at]);
+        word(&out[..at]);
     }
-    0
-}
-
-// Writes what was put where fewer than 4,096 bytes are left.
-pub fn room(out: &[u8], at: usize) -> usize {
-    if at <= out.len() {
-        let left = out.len() - at;
-        if left >= 4096 {
-            return at;
-        }
-    }
-    flush(out, at)
 }
 
 // Reads so many bytes of standard input to the start of a buffer; whether they were there.

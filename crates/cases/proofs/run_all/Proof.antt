@@ -1,4 +1,4 @@
--- `cases::run_all` asks nothing. The loop's invariant: area and buffer keep their lengths. The measure is the turns that are left. Assumes nothing.
+-- `cases::run_all` asks nothing. The loop's invariant: the area keeps its length. The measure is the turns that are left. Assumes nothing.
 use mathlib.Core.Path.{_≡_}
 use lib.ListN.{length}
 use Rattle.cases.proofs.Laws.{laws}
@@ -6,10 +6,10 @@ use Rattle.cases.proofs.run_all.Statement.{statement}
 use Rattle.cases.proofs.run_all.Tie as tie
 
 abbrev Inv-loop : tie.InvT-loop
-Inv-loop area₀ kind trace out₀ at cursor₀ place₀ turns₀ t13 area out cursor place turns = (length area ≡ length area₀) × (length out ≡ length out₀)
+Inv-loop area₀ kind trace cursor₀ turns₀ t10 area cursor turns = length area ≡ length area₀
 
 abbrev μ-loop : tie.MeasureT-loop
-μ-loop area₀ kind trace out₀ at cursor₀ place₀ turns₀ t13 area out cursor place turns = turns
+μ-loop area₀ kind trace cursor₀ turns₀ t10 area cursor turns = turns
 
 new-requires : tie.Need-new-requires Inv-loop μ-loop
 new-requires c κs = search laws
@@ -32,9 +32,6 @@ enum-told c = search laws
 same-length : tie.Need-same-length Inv-loop μ-loop
 same-length c = search laws
 
-same-length-2 : tie.Need-same-length-2 Inv-loop μ-loop
-same-length-2 c = search laws
-
 returns : tie.Need-returns Inv-loop μ-loop
 returns c = search laws
 
@@ -50,11 +47,8 @@ cast-field c = search laws
 field-requires : tie.Need-field-requires Inv-loop μ-loop
 field-requires c κs = search laws
 
-same-length-3 : tie.Need-same-length-3 Inv-loop μ-loop
-same-length-3 c = search laws
-
-same-length-4 : tie.Need-same-length-4 Inv-loop μ-loop
-same-length-4 c = search laws
+same-length-2 : tie.Need-same-length-2 Inv-loop μ-loop
+same-length-2 c = search laws
 
 returns-2 : tie.Need-returns-2 Inv-loop μ-loop
 returns-2 c = search laws
@@ -68,11 +62,8 @@ loop-less c = search laws
 loop-again : tie.Need-loop-again Inv-loop μ-loop
 loop-again c = search laws
 
-same-length-5 : tie.Need-same-length-5 Inv-loop μ-loop
-same-length-5 c = search laws
-
-same-length-6 : tie.Need-same-length-6 Inv-loop μ-loop
-same-length-6 c = search laws
+same-length-3 : tie.Need-same-length-3 Inv-loop μ-loop
+same-length-3 c = search laws
 
 returns-3 : tie.Need-returns-3 Inv-loop μ-loop
 returns-3 c = search laws
@@ -90,18 +81,15 @@ run-all-spec =
     run-one-requires
     enum-told
     same-length
-    same-length-2
     returns
     enum-known-found-2
     slice-aggregate-field
     cast-field
     field-requires
-    same-length-3
-    same-length-4
+    same-length-2
     returns-2
     sub-turns
     loop-less
     loop-again
-    same-length-5
-    same-length-6
+    same-length-3
     returns-3)

@@ -3,11 +3,11 @@ use Rattle.telling.proofs.Laws.{laws}
 use Rattle.telling.proofs.flush.Statement.{statement}
 use Rattle.telling.proofs.flush.Tie as tie
 
-slice-aggregate-write-all : tie.Need-slice-aggregate-write-all
-slice-aggregate-write-all c = search laws
+slice-aggregate-word : tie.Need-slice-aggregate-word
+slice-aggregate-word c = search laws
 
-write-all-requires : tie.Need-write-all-requires
-write-all-requires c κs = search laws
+word-requires : tie.Need-word-requires
+word-requires c κs = search laws
 
 returns : tie.Need-returns
 returns c = search laws
@@ -16,4 +16,4 @@ returns-2 : tie.Need-returns-2
 returns-2 c = search laws
 
 pub flush-spec : {M : Type 1} → statement M
-flush-spec = tie.close (tie.spec slice-aggregate-write-all write-all-requires returns returns-2)
+flush-spec = tie.close (tie.spec slice-aggregate-word word-requires returns returns-2)
