@@ -1,8 +1,10 @@
 // The test program `cases`: document 01's bench cases P1 to P8, what it asks to be run only, and every refusal number, through public calls. A
 // line for each. The file stdout is written by hand from document 01; the lists are read from the words of the area by docs/LAYOUT.md.
 use answers::Cleared;
+use answers::Counted;
 use answers::Gone;
 use answers::Got;
+use answers::Held;
 use answers::Inserted;
 use answers::Place;
 use answers::Seen;
@@ -184,6 +186,80 @@ fn put_list(area: &[u64], kind: Kind) {
     put_records(records, n);
 }
 
+// The numbers that the calls tell: how many are resident, the capacity, the target, the lengths of T1, T2, B1 and B2.
+fn put_counted(counted: Counted) {
+    match counted {
+        Counted::Number(n) => telling::field(b" ", n),
+        Counted::Refused => telling::word(b" refused"),
+    }
+}
+
+fn put_sizes(area: &[u64], kind: Kind) {
+    match kind {
+        Kind::Arc => {
+            put_counted(ArcCore::len(area));
+            put_counted(ArcCore::capacity(area));
+            put_counted(ArcCore::p_value(area));
+        }
+        Kind::Car => {
+            put_counted(CarCore::len(area));
+            put_counted(CarCore::capacity(area));
+            put_counted(CarCore::p_value(area));
+        }
+    }
+}
+
+fn put_lengths(area: &[u64], kind: Kind) {
+    match kind {
+        Kind::Arc => {
+            put_counted(ArcCore::t1_len(area));
+            put_counted(ArcCore::t2_len(area));
+            put_counted(ArcCore::b1_len(area));
+            put_counted(ArcCore::b2_len(area));
+        }
+        Kind::Car => {
+            put_counted(CarCore::t1_len(area));
+            put_counted(CarCore::t2_len(area));
+            put_counted(CarCore::b1_len(area));
+            put_counted(CarCore::b2_len(area));
+        }
+    }
+}
+
+fn put_numbers(area: &[u64], kind: Kind) {
+    telling::word(b"; numbers");
+    put_sizes(area, kind);
+    put_lengths(area, kind);
+}
+
+// Of the pages 1 to 10 those that `contains` holds for resident.
+fn held(area: &[u64], kind: Kind, page: u64) -> Held {
+    match kind {
+        Kind::Arc => ArcCore::contains(area, page),
+        Kind::Car => CarCore::contains(area, page),
+    }
+}
+
+fn put_held(area: &[u64], kind: Kind, page: u64) {
+    match held(area, kind, page) {
+        Held::Holds(b) => {
+            if b {
+                telling::field(b" ", page);
+            }
+        }
+        Held::Refused => telling::word(b" refused"),
+    }
+}
+
+fn put_holds(area: &[u64], kind: Kind) {
+    telling::word(b"; holds");
+    let mut page: u64 = 1;
+    while page < 11 {
+        put_held(area, kind, page);
+        page += 1;
+    }
+}
+
 fn put_facts(area: &[u64], kind: Kind) {
     let c = capacity(area);
     put_t1(area, c);
@@ -192,6 +268,8 @@ fn put_facts(area: &[u64], kind: Kind) {
     put_b2(area, c);
     put_target(area);
     put_list(area, kind);
+    put_numbers(area, kind);
+    put_holds(area, kind);
 }
 
 // ---- the answers
@@ -673,11 +751,20 @@ fn strange_batch(area: &mut [u64], other: &mut [u64]) {
     );
 }
 
+fn strange_numbers(area: &[u64]) {
+    telling::word(b"an ARC area given to CAR");
+    put_numbers(area, Kind::Car);
+    telling::word(b"; holds");
+    put_held(area, Kind::Car, 5);
+    telling::word(b"\n");
+}
+
 fn strangers(area: &mut [u64], other: &mut [u64]) {
     make(area, Kind::Arc, 2);
     strange_calls(area, other);
     strange_batch(area, other);
     try_listing(area, b"listing, an ARC area given to CAR: ", 9);
+    strange_numbers(area);
 }
 
 // Refusals 4 and 5, and an empty trace: `other` has the state after the operations that are done.
