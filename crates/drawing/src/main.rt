@@ -2,6 +2,7 @@
 // docs/LAYOUT.md, its value. docs/LAYOUT.md has what it prints as its drawing (tools/drawing).
 use arc_core::ArcCore;
 ghost use mathlib.Core.Path.{_≡_};
+ghost use Prim.Native.Nat.{_≤_};
 ghost use lib.ListN.{length};
 
 fn word(area: &[u64], i: usize) -> u64 {
@@ -11,199 +12,147 @@ fn word(area: &[u64], i: usize) -> u64 {
     0
 }
 
-// A line: the index, what the word holds, its value.
-fn put(area: &[u64], i: usize, name: &[u8], out: &mut [u8], at: usize) -> usize {
+// The end of a line: the word's value.
+fn put_value(area: &[u64], i: usize) {
     let w = word(area, i);
-    let index = telling::number(out, at, i as u64);
-    let named = telling::word(out, index, name);
-    let told = telling::number(out, named, w);
-    telling::byte(out, told, b'\n')
+    telling::field(b": ", w);
+    telling::word(b"\n");
+}
+
+// A line: the index, what the word holds, its value.
+fn put(area: &[u64], i: usize, name: &[u8]) {
+    telling::number(i as u64);
+    telling::word(name);
+    put_value(area, i);
 }
 
 // A line for one of several alike: the index, what the word holds, which one, its value.
-fn put_one(area: &[u64], i: usize, name: &[u8], k: usize, out: &mut [u8], at: usize) -> usize {
-    let w = word(area, i);
-    let index = telling::number(out, at, i as u64);
-    let named = telling::field(out, index, name, k as u64);
-    let told = telling::field(out, named, b": ", w);
-    telling::byte(out, told, b'\n')
+fn put_one(area: &[u64], i: usize, name: &[u8], k: usize) {
+    telling::number(i as u64);
+    telling::field(name, k as u64);
+    put_value(area, i);
 }
 
 // Word k of a row, which starts at an index.
-fn put_kth(area: &[u64], start: usize, name: &[u8], k: usize, out: &mut [u8], at: usize) -> usize {
+fn put_kth(area: &[u64], start: usize, name: &[u8], k: usize) {
     if start < 1024 {
         if k < 1024 {
-            return put_one(area, start + k, name, k, out, at);
+            put_one(area, start + k, name, k);
         }
     }
-    at
 }
 
 // So many words of one kind.
-fn put_row(area: &[u64], start: usize, n: usize, name: &[u8], out: &mut [u8], at: usize) -> usize {
-    let mut place = at;
+fn put_row(area: &[u64], start: usize, n: usize, name: &[u8]) {
     let mut k: usize = 0;
     while k < n {
-        place = put_kth(area, start, name, k, out, place);
+        put_kth(area, start, name, k);
         k += 1;
     }
-    place
 }
 
-// The links of cell k: the cell after it, the cell before it.
-fn put_cell(
-    area: &[u64],
-    start: usize,
-    after: &[u8],
-    before: &[u8],
-    k: usize,
-    out: &mut [u8],
-    at: usize,
-) -> usize {
+// The line of one link of cell k of a list.
+fn put_link(area: &[u64], i: usize, side: &[u8], list: &[u8], cell: &[u8], k: usize) {
+    telling::number(i as u64);
+    telling::word(side);
+    telling::word(list);
+    telling::field(cell, k as u64);
+    put_value(area, i);
+}
+
+// The links of cell k, from an index on: the cell after it, the cell before it.
+fn put_links(area: &[u64], i: usize, list: &[u8], cell: &[u8], k: usize)
+    requires { ⌜ i ≤ 4096 ⌝ }
+{
+    put_link(area, i, b" after ", list, cell, k);
+    put_link(area, i + 1, b" before ", list, cell, k);
+}
+
+// Cell k of those whose links start at an index.
+fn put_cell(area: &[u64], start: usize, list: &[u8], cell: &[u8], k: usize) {
     if start < 1024 {
         if k < 1024 {
-            let i = start + 2 * k;
-            let j = i + 1;
-            let place = put_one(area, i, after, k, out, at);
-            return put_one(area, j, before, k, out, place);
+            put_links(area, start + 2 * k, list, cell, k);
         }
     }
-    at
 }
 
 // The links of so many cells.
-fn put_cells(
-    area: &[u64],
-    start: usize,
-    n: usize,
-    after: &[u8],
-    before: &[u8],
-    out: &mut [u8],
-    at: usize,
-) -> usize {
-    let mut place = at;
+fn put_cells(area: &[u64], start: usize, n: usize, list: &[u8], cell: &[u8]) {
     let mut k: usize = 0;
     while k < n {
-        place = put_cell(area, start, after, before, k, out, place);
+        put_cell(area, start, list, cell, k);
         k += 1;
     }
-    place
 }
 
-fn put_header(area: &[u64], out: &mut [u8], at: usize) -> usize {
-    let a = put(area, 0, b" kind: ", out, at);
-    let b = put(area, 1, b" capacity: ", out, a);
-    let c = put(area, 2, b" target: ", out, b);
-    let d = put(area, 3, b" hint for the buckets: ", out, c);
-    telling::word(out, d, b"4 to 42 kept for what is to come\n")
+fn put_header(area: &[u64]) {
+    put(area, 0, b" kind");
+    put(area, 1, b" capacity");
+    put(area, 2, b" target");
+    put(area, 3, b" hint for the buckets");
+    telling::word(b"4 to 42 kept for what is to come\n");
 }
 
-fn put_counts(area: &[u64], out: &mut [u8], at: usize) -> usize {
-    let a = put(area, 43, b" slots in T1: ", out, at);
-    let b = put(area, 44, b" slots in T2: ", out, a);
-    put(area, 45, b" free slots: ", out, b)
+fn put_counts(area: &[u64]) {
+    put(area, 43, b" slots in T1");
+    put(area, 44, b" slots in T2");
+    put(area, 45, b" free slots");
 }
 
-fn put_slots(area: &[u64], out: &mut [u8], at: usize) -> usize {
-    let a = put_row(area, 46, 2, b" frame of slot ", out, at);
-    let b = put_row(area, 48, 2, b" list of slot ", out, a);
-    let c = put_row(area, 50, 2, b" bit of slot ", out, b);
-    put_cells(area, 52, 2, b" after slot ", b" before slot ", out, c)
+fn put_slots(area: &[u64]) {
+    put_row(area, 46, 2, b" frame of slot ");
+    put_row(area, 48, 2, b" list of slot ");
+    put_row(area, 50, 2, b" bit of slot ");
+    put_cells(area, 52, 2, b"slot", b" ");
 }
 
-fn put_rings(area: &[u64], out: &mut [u8], at: usize) -> usize {
-    let a = put(area, 56, b" after T1's sentinel 2: ", out, at);
-    let b = put(area, 57, b" before T1's sentinel 2: ", out, a);
-    let c = put(area, 58, b" after T2's sentinel 3: ", out, b);
-    put(area, 59, b" before T2's sentinel 3: ", out, c)
+// The sentinels of T1, T2 and the free slots.
+fn put_sentinels(area: &[u64]) {
+    put_links(area, 56, b"T1's", b" sentinel ", 2);
+    put_links(area, 58, b"T2's", b" sentinel ", 3);
+    put_links(area, 60, b"the free", b" sentinel ", 4);
 }
 
-fn put_free(area: &[u64], out: &mut [u8], at: usize) -> usize {
-    let a = put(area, 60, b" after the free sentinel 4: ", out, at);
-    put(area, 61, b" before the free sentinel 4: ", out, a)
+// A ghost list, whose part starts at an index.
+fn put_ghost_cells(area: &[u64], start: usize, list: &[u8])
+    requires { ⌜ start ≤ 1024 ⌝ }
+{
+    put_cells(area, start + 1, 2, list, b"'s cell ");
+    put_links(area, start + 5, list, b"'s sentinel ", 2);
+    put_links(area, start + 7, list, b"'s spare sentinel ", 3);
 }
 
-fn put_b1(area: &[u64], out: &mut [u8], at: usize) -> usize {
-    let a = put(area, 62, b" pages in B1: ", out, at);
-    let b = put_cells(
-        area,
-        63,
-        2,
-        b" after B1's cell ",
-        b" before B1's cell ",
-        out,
-        a,
-    );
-    let c = put(area, 67, b" after B1's sentinel 2: ", out, b);
-    put(area, 68, b" before B1's sentinel 2: ", out, c)
+fn put_ghosts(area: &[u64]) {
+    put(area, 62, b" pages in B1");
+    put_ghost_cells(area, 62, b"B1");
+    put(area, 71, b" pages in B2");
+    put_ghost_cells(area, 71, b"B2");
 }
 
-fn put_b1_spare(area: &[u64], out: &mut [u8], at: usize) -> usize {
-    let a = put(area, 69, b" after B1's spare sentinel 3: ", out, at);
-    put(area, 70, b" before B1's spare sentinel 3: ", out, a)
+fn put_lookup(area: &[u64]) {
+    put_row(area, 80, 6, b" page of place ");
+    put_cells(area, 86, 6, b"place", b" ");
+    put_cells(area, 98, 7, b"the sentinel of bucket", b" ");
 }
 
-fn put_b2(area: &[u64], out: &mut [u8], at: usize) -> usize {
-    let a = put(area, 71, b" pages in B2: ", out, at);
-    let b = put_cells(
-        area,
-        72,
-        2,
-        b" after B2's cell ",
-        b" before B2's cell ",
-        out,
-        a,
-    );
-    let c = put(area, 76, b" after B2's sentinel 2: ", out, b);
-    put(area, 77, b" before B2's sentinel 2: ", out, c)
-}
-
-fn put_b2_spare(area: &[u64], out: &mut [u8], at: usize) -> usize {
-    let a = put(area, 78, b" after B2's spare sentinel 3: ", out, at);
-    put(area, 79, b" before B2's spare sentinel 3: ", out, a)
-}
-
-fn put_lookup(area: &[u64], out: &mut [u8], at: usize) -> usize {
-    let a = put_row(area, 80, 6, b" page of place ", out, at);
-    let b = put_cells(area, 86, 6, b" after place ", b" before place ", out, a);
-    put_cells(
-        area,
-        98,
-        7,
-        b" after the sentinel of bucket ",
-        b" before the sentinel of bucket ",
-        out,
-        b,
-    )
-}
-
-fn put_residents(area: &[u64], out: &mut [u8], at: usize) -> usize {
-    let a = put_counts(area, out, at);
-    let b = put_slots(area, out, a);
-    let c = put_rings(area, out, b);
-    put_free(area, out, c)
-}
-
-fn put_ghosts(area: &[u64], out: &mut [u8], at: usize) -> usize {
-    let a = put_b1(area, out, at);
-    let b = put_b1_spare(area, out, a);
-    let c = put_b2(area, out, b);
-    put_b2_spare(area, out, c)
-}
-
-fn put_area(area: &[u64], out: &mut [u8]) {
-    let a = put_header(area, out, 0);
-    let b = put_residents(area, out, a);
-    let c = put_ghosts(area, out, b);
-    let d = put_lookup(area, out, c);
-    telling::flush(out, d);
+fn put_area(area: &[u64]) {
+    put_header(area);
+    put_counts(area);
+    put_slots(area);
+    put_sentinels(area);
+    put_ghosts(area);
+    put_lookup(area);
 }
 
 // The operations of P1.
-fn play(area: &mut [u64]) {
+fn play_first(area: &mut [u64]) {
     ArcCore::new(area, 2);
     ArcCore::insert(area, 5, 10);
     ArcCore::insert(area, 6, 11);
+}
+
+fn play_others(area: &mut [u64]) {
     ArcCore::get(area, 5);
     ArcCore::insert(area, 7, 12);
     ArcCore::insert(area, 5, 13);
@@ -216,13 +165,13 @@ fn words() -> [u64; 112]
     [0; 112]
 }
 
-fn run(area: &mut [u64], out: &mut [u8]) {
-    play(area);
-    put_area(area, out);
+fn run(area: &mut [u64]) {
+    play_first(area);
+    play_others(area);
+    put_area(area);
 }
 
 fn main() {
     let mut area = words();
-    let mut out = io::large_buffer();
-    run(&mut area, &mut out);
+    run(&mut area);
 }

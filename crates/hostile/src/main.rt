@@ -14,12 +14,6 @@ ghost use mathlib.Core.Path.{_≡_};
 ghost use Prim.Native.Nat.{_<_};
 ghost use lib.ListN.{length};
 
-// Whether another area may follow, and the buffer's position.
-struct Turn {
-    at: usize,
-    more: bool,
-}
-
 // ---- words
 
 fn pair(bytes: &[u8], at: usize) -> u64 {
@@ -156,78 +150,68 @@ fn all_refused(area: &mut [u64], kind: Kind) -> bool {
 
 // ---- the lines
 
-fn put_answered(area: &mut [u64], kind: Kind, out: &mut [u8], at: usize) -> usize {
-    if all_refused(area, kind) {
-        return at;
+fn put_answered(area: &mut [u64], kind: Kind) {
+    if !all_refused(area, kind) {
+        telling::word(b" answered");
     }
-    telling::word(out, at, b" answered")
 }
 
-fn put_changed(area: &[u64], bytes: &[u8], out: &mut [u8], at: usize) -> usize {
-    if unchanged(area, bytes) {
-        return at;
+fn put_changed(area: &[u64], bytes: &[u8]) {
+    if !unchanged(area, bytes) {
+        telling::word(b" changed");
     }
-    telling::word(out, at, b" changed")
 }
 
-fn put_refused(area: &mut [u64], kind: Kind, bytes: &[u8], out: &mut [u8], at: usize) -> usize {
-    let place = telling::word(out, at, b"3");
-    let answered = put_answered(area, kind, out, place);
-    put_changed(area, bytes, out, answered)
+fn put_refused(area: &mut [u64], kind: Kind, bytes: &[u8]) {
+    telling::word(b"3");
+    put_answered(area, kind);
+    put_changed(area, bytes);
 }
 
-fn put_kind(area: &mut [u64], kind: Kind, bytes: &[u8], out: &mut [u8], at: usize) -> usize {
+fn put_kind(area: &mut [u64], kind: Kind, bytes: &[u8]) {
     match len(area, kind) {
-        Counted::Number(n) => telling::field(out, at, b"ok ", n),
-        Counted::Refused => put_refused(area, kind, bytes, out, at),
+        Counted::Number(n) => telling::field(b"ok ", n),
+        Counted::Refused => put_refused(area, kind, bytes),
     }
 }
 
-fn put_area(area: &mut [u64], bytes: &[u8], out: &mut [u8], at: usize) -> usize {
+fn put_area(area: &mut [u64], bytes: &[u8]) {
     fill(area, bytes);
-    let mut place = telling::room(out, at);
-    place = telling::word(out, place, b"arc ");
-    place = put_kind(area, Kind::Arc, bytes, out, place);
-    place = telling::word(out, place, b" car ");
-    place = put_kind(area, Kind::Car, bytes, out, place);
-    telling::byte(out, place, b'\n')
+    telling::word(b"arc ");
+    put_kind(area, Kind::Arc, bytes);
+    telling::word(b" car ");
+    put_kind(area, Kind::Car, bytes);
+    telling::word(b"\n");
 }
 
 // ---- standard input
 
-// An area of n words.
-fn read_area(area: &mut [u64], bytes: &mut [u8], n: usize, out: &mut [u8], at: usize) -> Turn {
+// An area of n words; whether another may follow.
+fn read_area(area: &mut [u64], bytes: &mut [u8], n: usize) -> bool {
     if n <= area.len() {
         if n < 8192 {
             if telling::read(bytes, 8 * n) {
-                let place = put_area(&mut area[..n], bytes, out, at);
-                return Turn {
-                    at: place,
-                    more: true,
-                };
+                put_area(&mut area[..n], bytes);
+                return true;
             }
         }
     }
-    Turn { at, more: false }
+    false
 }
 
-fn read_case(area: &mut [u64], bytes: &mut [u8], out: &mut [u8], at: usize) -> Turn {
+fn read_case(area: &mut [u64], bytes: &mut [u8]) -> bool {
     if telling::read(bytes, 2) {
         let n = telling::pair_at(bytes, 0);
-        return read_area(area, bytes, n, out, at);
+        return read_area(area, bytes, n);
     }
-    Turn { at, more: false }
+    false
 }
 
 // A proved loop has to end, and nothing says that the input does: the turns are counted down, from a number that no run uses up.
-fn run(area: &mut [u64], bytes: &mut [u8], out: &mut [u8]) {
-    let mut at: usize = 0;
+fn run(area: &mut [u64], bytes: &mut [u8]) {
     let mut turns = u64::MAX;
     while turns > 0 {
-        let t = read_case(area, bytes, out, at);
-        at = t.at;
-        if !t.more {
-            telling::flush(out, at);
+        if !read_case(area, bytes) {
             return;
         }
         turns -= 1;
@@ -243,6 +227,5 @@ fn words() -> [u64; 4096]
 fn main() {
     let mut area = words();
     let mut bytes = io::large_buffer();
-    let mut out = io::large_buffer();
-    run(&mut area, &mut bytes, &mut out);
+    run(&mut area, &mut bytes);
 }

@@ -1,8 +1,11 @@
 // The test program `states` (oracle/README.md): on each case of standard input the answers, the state after each operation, the counts of the
 // batch and the listing. The operations are public calls; the states are read from the words of the area by docs/LAYOUT.md, and not by the
 // library, so that this is a second reading of them. What is right, crates/states/stdout, comes from the Rust oracle (oracle/make_vectors).
+use answers::Gone;
+use answers::Got;
 use answers::Inserted;
 use answers::Reply;
+use answers::Seen;
 use arc_core::ArcCore;
 use batch::Counts;
 use batch::Tally;
@@ -17,9 +20,8 @@ ghost use mathlib.Core.Path.{_≡_};
 ghost use Prim.Native.Nat.{_≤_};
 ghost use lib.ListN.{length};
 
-// What is told of a state so far: the buffer's position, whether the numbers are told whole, and their digest.
+// What is told of a state so far: whether the numbers are told whole, and their digest.
 struct Sink {
-    at: usize,
     whole: bool,
     digest: u64,
 }
@@ -31,12 +33,6 @@ enum Cells {
     B1,
     B2,
     Free,
-}
-
-// Whether another case may follow, and the buffer's position.
-struct Turn {
-    at: usize,
-    more: bool,
 }
 
 // ---- words of an area
@@ -109,81 +105,74 @@ fn mixed(h: u64, n: u64) -> u64 {
     telling::plus(sum, n % 4294967296)
 }
 
-// The text of a number, where the state is told whole.
-fn text(out: &mut [u8], s: Sink, n: u64) -> usize {
-    let at = s.at;
-    if s.whole {
-        let place = telling::room(out, at);
-        return telling::field(out, place, b" ", n);
-    }
-    at
-}
-
-fn tell(out: &mut [u8], s: Sink, n: u64) -> Sink {
-    let at = text(out, s, n);
+// A number: its text where the state is told whole, and the digest with it.
+fn tell(s: Sink, n: u64) -> Sink {
     let digest = mixed(s.digest, n);
+    if s.whole {
+        telling::field(b" ", n);
+    }
     Sink {
-        at,
         whole: s.whole,
         digest,
     }
 }
 
 // A page, which counts as two numbers of the digest.
-fn tell_page(out: &mut [u8], s: Sink, page: u64) -> Sink {
-    let at = text(out, s, page);
+fn tell_page(s: Sink, page: u64) -> Sink {
     let low = mixed(s.digest, page % 4294967296);
     let digest = mixed(low, page / 4294967296);
+    if s.whole {
+        telling::field(b" ", page);
+    }
     Sink {
-        at,
         whole: s.whole,
         digest,
     }
 }
 
 // A resident: page and frame, and CAR's slot and bit.
-fn tell_resident(area: &[u64], c: usize, slot: usize, out: &mut [u8], s: Sink) -> Sink
+fn tell_resident(area: &[u64], c: usize, slot: usize, s: Sink) -> Sink
     requires { ⌜ c ≤ 1024 ⌝ }
 {
     let page = page_of(area, c, slot);
     let frame = behind(area, 46, slot);
-    let paged = tell_page(out, s, page);
-    tell(out, paged, frame)
+    let paged = tell_page(s, page);
+    tell(paged, frame)
 }
 
-fn tell_marks(area: &[u64], c: usize, slot: usize, out: &mut [u8], s: Sink) -> Sink
+fn tell_marks(area: &[u64], c: usize, slot: usize, s: Sink) -> Sink
     requires { ⌜ c ≤ 1024 ⌝ }
 {
     let bit = behind(area, 2 * c + 46, slot);
-    let slotted = tell(out, s, slot as u64);
-    tell(out, slotted, bit)
+    let slotted = tell(s, slot as u64);
+    tell(slotted, bit)
 }
 
 // A ghost, whose places of the lookup start at a place.
-fn tell_ghost(area: &[u64], c: usize, start: usize, cell: usize, out: &mut [u8], s: Sink) -> Sink
+fn tell_ghost(area: &[u64], c: usize, start: usize, cell: usize, s: Sink) -> Sink
     requires { ⌜ c ≤ 1024 ⌝ }
 {
     if start < 32768 {
         if cell < 32768 {
             let page = page_of(area, c, start + cell);
-            return tell_page(out, s, page);
+            return tell_page(s, page);
         }
     }
     s
 }
 
-fn tell_cell(area: &[u64], c: usize, cells: Cells, cell: usize, out: &mut [u8], s: Sink) -> Sink
+fn tell_cell(area: &[u64], c: usize, cells: Cells, cell: usize, s: Sink) -> Sink
     requires { ⌜ c ≤ 1024 ⌝ }
 {
     match cells {
-        Cells::Arc => tell_resident(area, c, cell, out, s),
+        Cells::Arc => tell_resident(area, c, cell, s),
         Cells::Car => {
-            let told = tell_resident(area, c, cell, out, s);
-            tell_marks(area, c, cell, out, told)
+            let told = tell_resident(area, c, cell, s);
+            tell_marks(area, c, cell, told)
         }
-        Cells::B1 => tell_ghost(area, c, c, cell, out, s),
-        Cells::B2 => tell_ghost(area, c, 2 * c, cell, out, s),
-        Cells::Free => tell(out, s, cell as u64),
+        Cells::B1 => tell_ghost(area, c, c, cell, s),
+        Cells::B2 => tell_ghost(area, c, 2 * c, cell, s),
+        Cells::Free => tell(s, cell as u64),
     }
 }
 
@@ -195,7 +184,6 @@ fn tell_ring(
     n: usize,
     c: usize,
     cells: Cells,
-    out: &mut [u8],
     s: Sink,
 ) -> Sink
     requires { ⌜ c ≤ 1024 ⌝ }
@@ -204,7 +192,7 @@ fn tell_ring(
     let mut cell = next(area, links, sentinel);
     let mut left = n;
     while left > 0 {
-        told = tell_cell(area, c, cells, cell, out, told);
+        told = tell_cell(area, c, cells, cell, told);
         cell = next(area, links, cell);
         left -= 1;
     }
@@ -219,217 +207,172 @@ fn residents_of(kind: Kind) -> Cells {
 }
 
 // T1, T2, and for CAR the free slots: the rings of the sentinels c, c + 1 and c + 2 of the residents' links.
-fn tell_slots(area: &[u64], c: usize, i: usize, cells: Cells, out: &mut [u8], s: Sink) -> Sink
+fn tell_slots(area: &[u64], c: usize, i: usize, cells: Cells, s: Sink) -> Sink
     requires { ⌜ (c ≤ 1024) × (i ≤ 2) ⌝ }
 {
     let n = count(area, 43 + i);
     let links = 3 * c + 46;
-    tell_ring(area, links, c + i, n, c, cells, out, s)
+    tell_ring(area, links, c + i, n, c, cells, s)
 }
 
-fn tell_ghosts(area: &[u64], c: usize, start: usize, cells: Cells, out: &mut [u8], s: Sink) -> Sink
+fn tell_ghosts(area: &[u64], c: usize, start: usize, cells: Cells, s: Sink) -> Sink
     requires { ⌜ (c ≤ 1024) × (start ≤ 8192) ⌝ }
 {
     let n = count(area, start);
-    tell_ring(area, start + 1, c, n, c, cells, out, s)
+    tell_ring(area, start + 1, c, n, c, cells, s)
 }
 
-fn tell_word(area: &[u64], i: usize, out: &mut [u8], s: Sink) -> Sink {
+fn tell_word(area: &[u64], i: usize, s: Sink) -> Sink {
     let w = word(area, i);
-    tell(out, s, w)
+    tell(s, w)
 }
 
 // Kind, capacity and target.
-fn tell_header(area: &[u64], out: &mut [u8], s: Sink) -> Sink {
-    let kind = tell_word(area, 0, out, s);
-    let sized = tell_word(area, 1, out, kind);
-    tell_word(area, 2, out, sized)
+fn tell_header(area: &[u64], s: Sink) -> Sink {
+    let kind = tell_word(area, 0, s);
+    let sized = tell_word(area, 1, kind);
+    tell_word(area, 2, sized)
 }
 
 // The lengths of T1, T2, B1 and B2.
-fn tell_lengths(area: &[u64], c: usize, out: &mut [u8], s: Sink) -> Sink
+fn tell_lengths(area: &[u64], c: usize, s: Sink) -> Sink
     requires { ⌜ c ≤ 1024 ⌝ }
 {
     let b1 = 5 * c + 52;
     let b2 = 7 * c + 57;
-    let recent = tell_word(area, 43, out, s);
-    let frequent = tell_word(area, 44, out, recent);
-    let ghosts = tell_word(area, b1, out, frequent);
-    tell_word(area, b2, out, ghosts)
+    let recent = tell_word(area, 43, s);
+    let frequent = tell_word(area, 44, recent);
+    let ghosts = tell_word(area, b1, frequent);
+    tell_word(area, b2, ghosts)
 }
 
 // T1 and T2, then B1 and B2.
-fn tell_residents(area: &[u64], c: usize, cells: Cells, out: &mut [u8], s: Sink) -> Sink
+fn tell_residents(area: &[u64], c: usize, cells: Cells, s: Sink) -> Sink
     requires { ⌜ c ≤ 1024 ⌝ }
 {
-    let recent = tell_slots(area, c, 0, cells, out, s);
-    tell_slots(area, c, 1, cells, out, recent)
+    let recent = tell_slots(area, c, 0, cells, s);
+    tell_slots(area, c, 1, cells, recent)
 }
 
-fn tell_both_ghosts(area: &[u64], c: usize, out: &mut [u8], s: Sink) -> Sink
+fn tell_both_ghosts(area: &[u64], c: usize, s: Sink) -> Sink
     requires { ⌜ c ≤ 1024 ⌝ }
 {
     let b1 = 5 * c + 52;
     let b2 = 7 * c + 57;
-    let first = tell_ghosts(area, c, b1, Cells::B1, out, s);
-    tell_ghosts(area, c, b2, Cells::B2, out, first)
+    let first = tell_ghosts(area, c, b1, Cells::B1, s);
+    tell_ghosts(area, c, b2, Cells::B2, first)
 }
 
-fn tell_lists(area: &[u64], c: usize, cells: Cells, out: &mut [u8], s: Sink) -> Sink
+fn tell_lists(area: &[u64], c: usize, cells: Cells, s: Sink) -> Sink
     requires { ⌜ c ≤ 1024 ⌝ }
 {
-    let lengths = tell_lengths(area, c, out, s);
-    let residents = tell_residents(area, c, cells, out, lengths);
-    tell_both_ghosts(area, c, out, residents)
+    let lengths = tell_lengths(area, c, s);
+    let residents = tell_residents(area, c, cells, lengths);
+    tell_both_ghosts(area, c, residents)
 }
 
 // CAR's free slots.
-fn tell_free(area: &[u64], c: usize, kind: Kind, out: &mut [u8], s: Sink) -> Sink
+fn tell_free(area: &[u64], c: usize, kind: Kind, s: Sink) -> Sink
     requires { ⌜ c ≤ 1024 ⌝ }
 {
     match kind {
         Kind::Arc => s,
-        Kind::Car => tell_slots(area, c, 2, Cells::Free, out, s),
+        Kind::Car => tell_slots(area, c, 2, Cells::Free, s),
     }
 }
 
 // The numbers of a state.
-fn tell_state(area: &[u64], kind: Kind, steps: u64, out: &mut [u8], s: Sink) -> Sink {
+fn tell_state(area: &[u64], kind: Kind, steps: u64, s: Sink) -> Sink {
     let c = capacity(area);
     let cells = residents_of(kind);
-    let stepped = tell(out, s, steps);
-    let headed = tell_header(area, out, stepped);
-    let listed = tell_lists(area, c, cells, out, headed);
-    tell_free(area, c, kind, out, listed)
+    let stepped = tell(s, steps);
+    let headed = tell_header(area, stepped);
+    let listed = tell_lists(area, c, cells, headed);
+    tell_free(area, c, kind, listed)
 }
 
 // The state's line: whole, or its digest.
-fn put_whole(area: &[u64], kind: Kind, steps: u64, out: &mut [u8], at: usize) -> usize {
-    let place = telling::word(out, at, b"state");
-    let start = Sink {
-        at: place,
-        whole: true,
-        digest: 0,
-    };
-    let told = tell_state(area, kind, steps, out, start);
-    let end = told.at;
-    telling::byte(out, end, b'\n')
+fn digest_of(area: &[u64], kind: Kind, steps: u64, whole: bool) -> u64 {
+    let start = Sink { whole, digest: 0 };
+    let s = tell_state(area, kind, steps, start);
+    s.digest
 }
 
-fn digest_of(area: &[u64], kind: Kind, steps: u64, out: &mut [u8]) -> u64 {
-    let start = Sink {
-        at: 0,
-        whole: false,
-        digest: 0,
-    };
-    let told = tell_state(area, kind, steps, out, start);
-    told.digest
-}
-
-fn put_digest(area: &[u64], kind: Kind, steps: u64, out: &mut [u8], at: usize) -> usize {
-    let digest = digest_of(area, kind, steps, out);
-    let place = telling::number(out, at, digest);
-    telling::byte(out, place, b'\n')
-}
-
-fn put_state(area: &[u64], kind: Kind, mode: u8, steps: u64, out: &mut [u8], at: usize) -> usize {
-    let place = telling::room(out, at);
+fn put_state(area: &[u64], kind: Kind, mode: u8, steps: u64) {
     if mode == 0 {
-        return put_whole(area, kind, steps, out, place);
+        telling::word(b"state");
+        digest_of(area, kind, steps, true);
+        telling::word(b"\n");
+        return;
     }
-    put_digest(area, kind, steps, out, place)
+    let digest = digest_of(area, kind, steps, false);
+    telling::number(digest);
+    telling::word(b"\n");
 }
 
-// The library's lines ask for room, which a buffer of this program always has.
-fn put_reply(out: &mut [u8], at: usize, reply: Reply) -> usize {
-    let place = telling::room(out, at);
-    if place < out.len() {
-        let left = out.len() - place;
-        if left >= 43 {
-            return lines::put_reply(out, place, reply);
-        }
-    }
-    place
+// The library's lines ask for a buffer with room.
+fn line() -> [u8; 64]
+    ensures { λ r. ⌜ 64 ≡ length r ⌝ }
+{
+    [0; 64]
 }
 
-fn put_end(out: &mut [u8], at: usize, n: u64) -> usize {
-    let place = telling::room(out, at);
-    if place < out.len() {
-        let left = out.len() - place;
-        if left >= 43 {
-            return lines::put_end(out, place, n);
-        }
-    }
-    place
+fn put_reply(reply: Reply) {
+    let mut out = line();
+    let end = lines::put_reply(&mut out, 0, reply);
+    telling::flush(&out, end);
 }
 
-fn put_stop(out: &mut [u8], at: usize, refusal: u8, offset: u64) -> usize {
-    let place = telling::room(out, at);
-    if place < out.len() {
-        let left = out.len() - place;
-        if left >= 43 {
-            return lines::put_stop(out, place, refusal, offset);
-        }
-    }
-    place
+fn put_end(n: u64) {
+    let mut out = line();
+    let end = lines::put_end(&mut out, 0, n);
+    telling::flush(&out, end);
+}
+
+fn put_stop(refusal: u8, offset: u64) {
+    let mut out = line();
+    let end = lines::put_stop(&mut out, 0, refusal, offset);
+    telling::flush(&out, end);
 }
 
 // ---- the calls
 
-fn arc_call(area: &mut [u64], op: Operation) -> Reply {
-    match op {
-        Operation::Get { page } => {
-            let r = ArcCore::get(area, page);
-            Reply::Got(r)
-        }
-        Operation::Insert { page, frame } => {
-            let r = ArcCore::insert(area, page, frame);
-            Reply::Inserted(r)
-        }
-        Operation::Remove { page } => {
-            let r = ArcCore::remove(area, page);
-            Reply::Gone(r)
-        }
-        Operation::Clear => {
-            ArcCore::clear(area);
-            Reply::Cleared
-        }
-        Operation::Peek { page } => {
-            let r = ArcCore::peek(area, page);
-            Reply::Seen(r)
-        }
-    }
-}
-
-fn car_call(area: &mut [u64], op: Operation) -> Reply {
-    match op {
-        Operation::Get { page } => {
-            let r = CarCore::get(area, page);
-            Reply::Got(r)
-        }
-        Operation::Insert { page, frame } => {
-            let r = CarCore::insert(area, page, frame);
-            Reply::Inserted(r)
-        }
-        Operation::Remove { page } => {
-            let r = CarCore::remove(area, page);
-            Reply::Gone(r)
-        }
-        Operation::Clear => {
-            CarCore::clear(area);
-            Reply::Cleared
-        }
-        Operation::Peek { page } => {
-            let r = CarCore::peek(area, page);
-            Reply::Seen(r)
-        }
-    }
-}
-
-fn call(area: &mut [u64], kind: Kind, op: Operation) -> Reply {
+fn get(area: &mut [u64], kind: Kind, page: u64) -> Got {
     match kind {
-        Kind::Arc => arc_call(area, op),
-        Kind::Car => car_call(area, op),
+        Kind::Arc => ArcCore::get(area, page),
+        Kind::Car => CarCore::get(area, page),
+    }
+}
+
+fn insert(area: &mut [u64], kind: Kind, page: u64, frame: u32) -> Inserted {
+    match kind {
+        Kind::Arc => ArcCore::insert(area, page, frame),
+        Kind::Car => CarCore::insert(area, page, frame),
+    }
+}
+
+fn remove(area: &mut [u64], kind: Kind, page: u64) -> Gone {
+    match kind {
+        Kind::Arc => ArcCore::remove(area, page),
+        Kind::Car => CarCore::remove(area, page),
+    }
+}
+
+fn clear(area: &mut [u64], kind: Kind) {
+    match kind {
+        Kind::Arc => {
+            ArcCore::clear(area);
+        }
+        Kind::Car => {
+            CarCore::clear(area);
+        }
+    }
+}
+
+fn peek(area: &[u64], kind: Kind, page: u64) -> Seen {
+    match kind {
+        Kind::Arc => ArcCore::peek(area, page),
+        Kind::Car => CarCore::peek(area, page),
     }
 }
 
@@ -445,43 +388,70 @@ fn make(area: &mut [u64], kind: Kind, c: u64) {
 }
 
 // The replacement steps that an answer tells.
-fn steps_of(reply: Reply) -> u64 {
-    match reply {
-        Reply::Inserted(inserted) => match inserted {
-            Inserted::Out { steps, .. } => steps,
-            _ => 0,
-        },
+fn steps_of(inserted: Inserted) -> u64 {
+    match inserted {
+        Inserted::Out { steps, .. } => steps,
         _ => 0,
     }
 }
 
-// One operation: its line and its state's.
-fn run_one(
-    area: &mut [u64],
-    kind: Kind,
-    mode: u8,
-    op: Operation,
-    out: &mut [u8],
-    at: usize,
-) -> usize {
-    let reply = call(area, kind, op);
-    let steps = steps_of(reply);
-    let place = put_reply(out, at, reply);
-    put_state(area, kind, mode, steps, out, place)
+// Each call, with its line.
+fn run_get(area: &mut [u64], kind: Kind, page: u64) -> u64 {
+    let r = get(area, kind, page);
+    put_reply(Reply::Got(r));
+    0
 }
 
-// The operations one after the other, and the last line. `head` bytes of the case stand before them.
-fn run_all(
-    area: &mut [u64],
-    kind: Kind,
-    mode: u8,
-    trace: &[u8],
-    head: u64,
-    out: &mut [u8],
-    at: usize,
-) -> usize {
+fn run_insert(area: &mut [u64], kind: Kind, page: u64, frame: u32) -> u64 {
+    let r = insert(area, kind, page, frame);
+    put_reply(Reply::Inserted(r));
+    steps_of(r)
+}
+
+fn run_remove(area: &mut [u64], kind: Kind, page: u64) -> u64 {
+    let r = remove(area, kind, page);
+    put_reply(Reply::Gone(r));
+    0
+}
+
+fn run_clear(area: &mut [u64], kind: Kind) -> u64 {
+    clear(area, kind);
+    put_reply(Reply::Cleared);
+    0
+}
+
+fn run_peek(area: &[u64], kind: Kind, page: u64) -> u64 {
+    let r = peek(area, kind, page);
+    put_reply(Reply::Seen(r));
+    0
+}
+
+// The call of an operation, with its line; the replacement steps that it tells.
+fn call(area: &mut [u64], kind: Kind, op: Operation) -> u64 {
+    match op {
+        Operation::Get { page } => run_get(area, kind, page),
+        Operation::Insert { page, frame } => run_insert(area, kind, page, frame),
+        Operation::Remove { page } => run_remove(area, kind, page),
+        Operation::Clear => run_clear(area, kind),
+        Operation::Peek { page } => run_peek(area, kind, page),
+    }
+}
+
+// One operation: its line and its state's.
+fn run_one(area: &mut [u64], kind: Kind, mode: u8, op: Operation) {
+    let steps = call(area, kind, op);
+    put_state(area, kind, mode, steps);
+}
+
+// The last line, where a refusal stops the operations. `head` bytes of the case stand before them.
+fn put_refused(head: u64, number: u8, offset: u64) {
+    let stop = telling::plus(head, offset);
+    put_stop(number, stop);
+}
+
+// The operations one after the other, and the last line.
+fn run_all(area: &mut [u64], kind: Kind, mode: u8, trace: &[u8], head: u64) {
     let mut cursor = Cursor::new();
-    let mut place = at;
     let mut done: u64 = 0;
     let mut turns = u64::MAX;
     while turns > 0 {
@@ -489,21 +459,21 @@ fn run_all(
         let found = step.found;
         match found {
             Found::Read(op) => {
-                place = run_one(area, kind, mode, op, out, place);
+                run_one(area, kind, mode, op);
                 cursor = step.cursor;
                 done = telling::plus(done, 1);
             }
             Found::End => {
-                return put_end(out, place, done);
+                put_end(done);
+                return;
             }
             Found::Refused { number, offset } => {
-                let stop = telling::plus(head, offset as u64);
-                return put_stop(out, place, number, stop);
+                put_refused(head, number, offset as u64);
+                return;
             }
         }
         turns -= 1;
     }
-    place
 }
 
 // ---- the batch
@@ -527,78 +497,56 @@ fn tally(area: &mut [u64], kind: Kind, trace: &[u8]) -> Tally {
     }
 }
 
-fn put_gets(out: &mut [u8], at: usize, n: Counts) -> usize {
-    let gets = n.gets;
-    let hits = n.get_hits;
-    let updates = n.updates;
-    let place = telling::field(out, at, b"counts ", gets);
-    let place = telling::field(out, place, b" ", hits);
-    telling::field(out, place, b" ", updates)
+fn put_counts(n: Counts) {
+    telling::field(b"counts ", n.gets);
+    telling::field(b" ", n.get_hits);
+    telling::field(b" ", n.updates);
+    telling::field(b" ", n.new_pages);
+    put_others(n.evictions, n.steps, n.removals);
 }
 
-fn put_news(out: &mut [u8], at: usize, n: Counts) -> usize {
-    let news = n.new_pages;
-    let evictions = n.evictions;
-    let place = telling::field(out, at, b" ", news);
-    telling::field(out, place, b" ", evictions)
-}
-
-fn put_steps(out: &mut [u8], at: usize, n: Counts) -> usize {
-    let steps = n.steps;
-    let removals = n.removals;
-    let place = telling::field(out, at, b" ", steps);
-    telling::field(out, place, b" ", removals)
-}
-
-fn put_counts(out: &mut [u8], at: usize, n: Counts) -> usize {
-    let start = telling::room(out, at);
-    let place = put_gets(out, start, n);
-    let place = put_news(out, place, n);
-    put_steps(out, place, n)
+fn put_others(evictions: u64, steps: u64, removals: u64) {
+    telling::field(b" ", evictions);
+    telling::field(b" ", steps);
+    telling::field(b" ", removals);
 }
 
 // The whole trace again by the library's batch: its counts, and the digest of the state it leaves.
-fn run_batch(area: &mut [u64], kind: Kind, trace: &[u8], out: &mut [u8], at: usize) -> usize {
+fn run_batch(area: &mut [u64], kind: Kind, trace: &[u8]) {
     let t = tally(area, kind, trace);
     let counts = t.counts;
-    let digest = digest_of(area, kind, 0, out);
-    let place = put_counts(out, at, counts);
-    let end = telling::field(out, place, b" ", digest);
-    telling::byte(out, end, b'\n')
+    put_counts(counts);
+    let digest = digest_of(area, kind, 0, false);
+    telling::field(b" ", digest);
+    telling::word(b"\n");
 }
 
 // ---- the listing
 
-fn put_record(out: &mut [u8], at: usize, r: Record) -> usize {
-    let page = r.page;
-    let frame = r.frame;
-    let start = telling::room(out, at);
-    let place = telling::field(out, start, b" ", page);
-    telling::field(out, place, b" ", frame as u64)
+fn put_record(r: Record) {
+    telling::field(b" ", r.page);
+    telling::field(b" ", r.frame as u64);
 }
 
-fn put_records(records: [Record; 1024], n: usize, out: &mut [u8], at: usize) -> usize {
-    let mut place = at;
+fn put_records(records: [Record; 1024], n: usize) {
     let mut i: usize = 0;
     while i < 1024 {
         if i >= n {
-            return place;
+            return;
         }
         let r = records[i];
-        place = put_record(out, place, r);
+        put_record(r);
         i += 1;
     }
-    place
 }
 
-fn put_list(area: &[u64], kind: Kind, out: &mut [u8], at: usize) -> usize {
+fn put_list(area: &[u64], kind: Kind) {
     let plan = listing::prepare(area, kind, 1024);
     let n = plan.count;
     let records = listing::list_all(area, kind);
-    let start = telling::room(out, at);
-    let place = telling::field(out, start, b"list ", n as u64);
-    let end = put_records(records, n, out, place);
-    telling::byte(out, end, b'\n')
+    telling::field(b"list ", n as u64);
+    put_records(records, n);
+    telling::word(b"\n");
 }
 
 // ---- a case
@@ -612,122 +560,75 @@ fn run_case(
     mode: u8,
     input: &[u8],
     head: usize,
-    out: &mut [u8],
-    at: usize,
-) -> usize {
+) {
     if head <= input.len() {
         make(area, kind, c);
-        let place = run_all(area, kind, mode, &input[head..], head as u64, out, at);
+        run_all(area, kind, mode, &input[head..], head as u64);
         make(other, kind, c);
-        let counted = run_batch(other, kind, &input[head..], out, place);
-        return put_list(area, kind, out, counted);
+        run_batch(other, kind, &input[head..]);
+        put_list(area, kind);
     }
-    at
 }
 
 // The capacity behind the kind byte.
-fn run_kind(
-    area: &mut [u64],
-    other: &mut [u64],
-    kind: Kind,
-    mode: u8,
-    input: &[u8],
-    out: &mut [u8],
-    at: usize,
-) -> usize {
+fn run_kind(area: &mut [u64], other: &mut [u64], kind: Kind, mode: u8, input: &[u8]) {
     if input.len() == 0 {
-        return at;
+        return;
     }
     let number = numbers::read_frame(&input[1..]);
     let Frame::Value { value, used } = number else {
-        return put_stop(out, at, 5, 1);
+        put_stop(5, 1);
+        return;
     };
     if 1024 < value {
-        return put_stop(out, at, 1, 1);
+        put_stop(1, 1);
+        return;
     }
     if used < 65536 {
-        return run_case(
-            area,
-            other,
-            kind,
-            value as u64,
-            mode,
-            input,
-            1 + used,
-            out,
-            at,
-        );
+        run_case(area, other, kind, value as u64, mode, input, 1 + used);
     }
-    at
 }
 
-fn run_input(
-    area: &mut [u64],
-    other: &mut [u64],
-    mode: u8,
-    input: &[u8],
-    out: &mut [u8],
-    at: usize,
-) -> usize {
+fn run_input(area: &mut [u64], other: &mut [u64], mode: u8, input: &[u8]) {
     if input.len() == 0 {
-        return put_stop(out, at, 5, 0);
+        put_stop(5, 0);
+        return;
     }
     let kind = input[0];
     match kind {
-        1 => run_kind(area, other, Kind::Arc, mode, input, out, at),
-        2 => run_kind(area, other, Kind::Car, mode, input, out, at),
-        _ => put_stop(out, at, 4, 0),
+        1 => run_kind(area, other, Kind::Arc, mode, input),
+        2 => run_kind(area, other, Kind::Car, mode, input),
+        _ => put_stop(4, 0),
     }
 }
 
 // ---- standard input
 
-// The bytes of a case behind its mode and its length.
-fn run_body(
-    area: &mut [u64],
-    other: &mut [u64],
-    mode: u8,
-    bytes: &mut [u8],
-    n: usize,
-    out: &mut [u8],
-    at: usize,
-) -> Turn {
+// The bytes of a case behind its mode and its length; whether another case may follow.
+fn run_body(area: &mut [u64], other: &mut [u64], mode: u8, bytes: &mut [u8], n: usize) -> bool {
     if telling::read(bytes, n) {
         if n <= bytes.len() {
-            let place = run_input(area, other, mode, &bytes[..n], out, at);
-            return Turn {
-                at: place,
-                more: true,
-            };
+            run_input(area, other, mode, &bytes[..n]);
+            return true;
         }
     }
-    Turn { at, more: false }
+    false
 }
 
-fn read_case(
-    area: &mut [u64],
-    other: &mut [u64],
-    bytes: &mut [u8],
-    out: &mut [u8],
-    at: usize,
-) -> Turn {
+fn read_case(area: &mut [u64], other: &mut [u64], bytes: &mut [u8]) -> bool {
     if telling::read(bytes, 3) {
         let mode = telling::byte_at(bytes, 0);
         let n = telling::pair_at(bytes, 1);
-        return run_body(area, other, mode, bytes, n, out, at);
+        return run_body(area, other, mode, bytes, n);
     }
-    Turn { at, more: false }
+    false
 }
 
 // A proved loop has to end, and nothing says that the input does: the turns are counted down, from a number that no run uses up.
-fn run(area: &mut [u64], other: &mut [u64], bytes: &mut [u8], out: &mut [u8]) {
-    let mut at: usize = 0;
+fn run(area: &mut [u64], other: &mut [u64], bytes: &mut [u8]) {
     let mut turns = u64::MAX;
     while turns > 0 {
-        let t = read_case(area, other, bytes, out, at);
-        at = t.at;
-        if !t.more {
-            telling::flush(out, at);
+        if !read_case(area, other, bytes) {
             return;
         }
         turns -= 1;
@@ -745,6 +646,5 @@ fn main() {
     let mut area = words();
     let mut other = words();
     let mut bytes = io::large_buffer();
-    let mut out = io::large_buffer();
-    run(&mut area, &mut other, &mut bytes, &mut out);
+    run(&mut area, &mut other, &mut bytes);
 }

@@ -24,14 +24,11 @@ same-length c = search laws
 same-length-2 : tie.Need-same-length-2
 same-length-2 c = search laws
 
-same-length-3 : tie.Need-same-length-3
-same-length-3 c = search laws
-
 returns : tie.Need-returns
 returns c = search laws
 
-same-length-4 : tie.Need-same-length-4
-same-length-4 c = search laws
+same-length-3 : tie.Need-same-length-3
+same-length-3 c = search laws
 
 returns-2 : tie.Need-returns-2
 returns-2 c = search laws
@@ -53,9 +50,8 @@ read-area-spec =
     put-area-requires
     same-length
     same-length-2
-    same-length-3
     returns
-    same-length-4
+    same-length-3
     returns-2
     returns-3
     returns-4)

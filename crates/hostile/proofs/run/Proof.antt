@@ -1,4 +1,4 @@
--- `hostile::run` asks nothing. The loop's invariant: area and buffers keep their lengths. The measure is the turns that are left. Assumes nothing.
+-- `hostile::run` asks nothing. The loop's invariant: the area and the buffer keep their lengths. The measure is the turns that are left. Assumes nothing.
 use mathlib.Core.Path.{_≡_}
 use lib.ListN.{length}
 use Rattle.hostile.proofs.Laws.{laws}
@@ -6,10 +6,10 @@ use Rattle.hostile.proofs.run.Statement.{statement}
 use Rattle.hostile.proofs.run.Tie as tie
 
 abbrev Inv-loop : tie.InvT-loop
-Inv-loop area₀ bytes₀ out₀ at₀ turns₀ area bytes out at turns = (length area ≡ length area₀) × ((length bytes ≡ length bytes₀) × (length out ≡ length out₀))
+Inv-loop area₀ bytes₀ turns₀ area bytes turns = (length area ≡ length area₀) × (length bytes ≡ length bytes₀)
 
 abbrev μ-loop : tie.MeasureT-loop
-μ-loop area₀ bytes₀ out₀ at₀ turns₀ area bytes out at turns = turns
+μ-loop area₀ bytes₀ turns₀ area bytes turns = turns
 
 loop-holds : tie.Need-loop-holds Inv-loop μ-loop
 loop-holds c = search laws
@@ -17,17 +17,11 @@ loop-holds c = search laws
 read-case-requires : tie.Need-read-case-requires Inv-loop μ-loop
 read-case-requires c κs = search laws
 
-flush-requires : tie.Need-flush-requires Inv-loop μ-loop
-flush-requires c κs = search laws
-
 same-length : tie.Need-same-length Inv-loop μ-loop
 same-length c = search laws
 
 same-length-2 : tie.Need-same-length-2 Inv-loop μ-loop
 same-length-2 c = search laws
-
-same-length-3 : tie.Need-same-length-3 Inv-loop μ-loop
-same-length-3 c = search laws
 
 returns : tie.Need-returns Inv-loop μ-loop
 returns c = search laws
@@ -41,14 +35,11 @@ loop-less c = search laws
 loop-again : tie.Need-loop-again Inv-loop μ-loop
 loop-again c = search laws
 
+same-length-3 : tie.Need-same-length-3 Inv-loop μ-loop
+same-length-3 c = search laws
+
 same-length-4 : tie.Need-same-length-4 Inv-loop μ-loop
 same-length-4 c = search laws
-
-same-length-5 : tie.Need-same-length-5 Inv-loop μ-loop
-same-length-5 c = search laws
-
-same-length-6 : tie.Need-same-length-6 Inv-loop μ-loop
-same-length-6 c = search laws
 
 returns-2 : tie.Need-returns-2 Inv-loop μ-loop
 returns-2 c = search laws
@@ -61,15 +52,12 @@ run-spec =
     μ-loop
     loop-holds
     read-case-requires
-    flush-requires
     same-length
     same-length-2
-    same-length-3
     returns
     sub-turns
     loop-less
     loop-again
+    same-length-3
     same-length-4
-    same-length-5
-    same-length-6
     returns-2)

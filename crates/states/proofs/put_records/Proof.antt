@@ -1,22 +1,17 @@
--- `states::put_records` asks nothing. The loop's invariant: the buffer keeps its length. The measure is the records that are left. Assumes nothing.
-use mathlib.Core.Path.{_≡_}
+-- `states::put_records` asks nothing. The loop's invariant is empty. The measure is the records that are left. Assumes nothing.
 use Prim.Native.Nat.{_-_}
-use lib.ListN.{length}
 use Rattle.states.proofs.Laws.{laws}
 use Rattle.states.proofs.put_records.Statement.{statement}
 use Rattle.states.proofs.put_records.Tie as tie
 
 abbrev Inv-loop : tie.InvT-loop
-Inv-loop n out₀ at records place₀ i₀ out place i = length out ≡ length out₀
+Inv-loop n records i₀ i = Unit {0}
 
 abbrev μ-loop : tie.MeasureT-loop
-μ-loop n out₀ at records place₀ i₀ out place i = 1024 - i
+μ-loop n records i₀ i = 1024 - i
 
 loop-holds : tie.Need-loop-holds Inv-loop μ-loop
 loop-holds c = search laws
-
-same-length : tie.Need-same-length Inv-loop μ-loop
-same-length c = search laws
 
 returns : tie.Need-returns Inv-loop μ-loop
 returns c = search laws
@@ -39,9 +34,6 @@ loop-less c = search laws
 loop-again : tie.Need-loop-again Inv-loop μ-loop
 loop-again c = search laws
 
-same-length-2 : tie.Need-same-length-2 Inv-loop μ-loop
-same-length-2 c = search laws
-
 returns-2 : tie.Need-returns-2 Inv-loop μ-loop
 returns-2 c = search laws
 
@@ -52,7 +44,6 @@ put-records-spec =
     Inv-loop
     μ-loop
     loop-holds
-    same-length
     returns
     mul-r
     array-copy-out-r
@@ -60,5 +51,4 @@ put-records-spec =
     add-i
     loop-less
     loop-again
-    same-length-2
     returns-2)

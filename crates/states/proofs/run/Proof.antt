@@ -1,4 +1,4 @@
--- `states::run` asks nothing. The loop's invariant: areas and buffers keep their lengths. The measure is the turns that are left. Assumes nothing.
+-- `states::run` asks nothing. The loop's invariant: areas and buffer keep their lengths. The measure is the turns that are left. Assumes nothing.
 use mathlib.Core.Path.{_≡_}
 use lib.ListN.{length}
 use Rattle.states.proofs.Laws.{laws}
@@ -6,19 +6,16 @@ use Rattle.states.proofs.run.Statement.{statement}
 use Rattle.states.proofs.run.Tie as tie
 
 abbrev Inv-loop : tie.InvT-loop
-Inv-loop area₀ other₀ bytes₀ out₀ at₀ turns₀ area other bytes out at turns = (length area ≡ length area₀) × ((length other ≡ length other₀) × ((length bytes ≡ length bytes₀) × (length out ≡ length out₀)))
+Inv-loop area₀ other₀ bytes₀ turns₀ area other bytes turns = (length area ≡ length area₀) × ((length other ≡ length other₀) × (length bytes ≡ length bytes₀))
 
 abbrev μ-loop : tie.MeasureT-loop
-μ-loop area₀ other₀ bytes₀ out₀ at₀ turns₀ area other bytes out at turns = turns
+μ-loop area₀ other₀ bytes₀ turns₀ area other bytes turns = turns
 
 loop-holds : tie.Need-loop-holds Inv-loop μ-loop
 loop-holds c = search laws
 
 read-case-requires : tie.Need-read-case-requires Inv-loop μ-loop
 read-case-requires c κs = search laws
-
-flush-requires : tie.Need-flush-requires Inv-loop μ-loop
-flush-requires c κs = search laws
 
 same-length : tie.Need-same-length Inv-loop μ-loop
 same-length c = search laws
@@ -28,9 +25,6 @@ same-length-2 c = search laws
 
 same-length-3 : tie.Need-same-length-3 Inv-loop μ-loop
 same-length-3 c = search laws
-
-same-length-4 : tie.Need-same-length-4 Inv-loop μ-loop
-same-length-4 c = search laws
 
 returns : tie.Need-returns Inv-loop μ-loop
 returns c = search laws
@@ -44,40 +38,17 @@ loop-less c = search laws
 loop-again : tie.Need-loop-again Inv-loop μ-loop
 loop-again c = search laws
 
+same-length-4 : tie.Need-same-length-4 Inv-loop μ-loop
+same-length-4 c = search laws
+
 same-length-5 : tie.Need-same-length-5 Inv-loop μ-loop
 same-length-5 c = search laws
 
 same-length-6 : tie.Need-same-length-6 Inv-loop μ-loop
 same-length-6 c = search laws
 
-same-length-7 : tie.Need-same-length-7 Inv-loop μ-loop
-same-length-7 c = search laws
-
-same-length-8 : tie.Need-same-length-8 Inv-loop μ-loop
-same-length-8 c = search laws
-
 returns-2 : tie.Need-returns-2 Inv-loop μ-loop
 returns-2 c = search laws
 
 pub run-spec : {M : Type 1} → statement M
-run-spec =
-    tie.close
-    (tie.spec
-    Inv-loop
-    μ-loop
-    loop-holds
-    read-case-requires
-    flush-requires
-    same-length
-    same-length-2
-    same-length-3
-    same-length-4
-    returns
-    sub-turns
-    loop-less
-    loop-again
-    same-length-5
-    same-length-6
-    same-length-7
-    same-length-8
-    returns-2)
+run-spec = tie.close (tie.spec Inv-loop μ-loop loop-holds read-case-requires same-length same-length-2 same-length-3 returns sub-turns loop-less loop-again same-length-4 same-length-5 same-length-6 returns-2)

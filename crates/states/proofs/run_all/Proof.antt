@@ -1,4 +1,4 @@
--- `states::run_all` asks nothing. The loop's invariant: area and buffer keep their lengths. The measure is the turns that are left. Assumes nothing.
+-- `states::run_all` asks nothing. The loop's invariant: the area keeps its length. The measure is the turns that are left. Assumes nothing.
 use mathlib.Core.Path.{_≡_}
 use lib.ListN.{length}
 use Rattle.states.proofs.Laws.{laws}
@@ -6,12 +6,10 @@ use Rattle.states.proofs.run_all.Statement.{statement}
 use Rattle.states.proofs.run_all.Tie as tie
 
 abbrev Inv-loop : tie.InvT-loop
-Inv-loop area₀ kind mode trace head out₀ at cursor₀ place₀ done₀ turns₀ area out cursor place done turns =
-    (length area ≡ length area₀) × (length out ≡ length out₀)
+Inv-loop area₀ kind mode trace head cursor₀ done₀ turns₀ area cursor done turns = length area ≡ length area₀
 
 abbrev μ-loop : tie.MeasureT-loop
-μ-loop area₀ kind mode trace head out₀ at cursor₀ place₀ done₀ turns₀ area out cursor place done turns =
-    turns
+μ-loop area₀ kind mode trace head cursor₀ done₀ turns₀ area cursor done turns = turns
 
 new-requires : tie.Need-new-requires Inv-loop μ-loop
 new-requires c κs = search laws
@@ -40,26 +38,17 @@ put-end-requires c κs = search laws
 same-length : tie.Need-same-length Inv-loop μ-loop
 same-length c = search laws
 
-same-length-2 : tie.Need-same-length-2 Inv-loop μ-loop
-same-length-2 c = search laws
-
 returns : tie.Need-returns Inv-loop μ-loop
 returns c = search laws
 
 enum-known-found-2 : tie.Need-enum-known-found-2 Inv-loop μ-loop
 enum-known-found-2 c = search laws
 
-plus-requires-2 : tie.Need-plus-requires-2 Inv-loop μ-loop
-plus-requires-2 c κs = search laws
+put-refused-requires : tie.Need-put-refused-requires Inv-loop μ-loop
+put-refused-requires c κs = search laws
 
-put-stop-requires : tie.Need-put-stop-requires Inv-loop μ-loop
-put-stop-requires c κs = search laws
-
-same-length-3 : tie.Need-same-length-3 Inv-loop μ-loop
-same-length-3 c = search laws
-
-same-length-4 : tie.Need-same-length-4 Inv-loop μ-loop
-same-length-4 c = search laws
+same-length-2 : tie.Need-same-length-2 Inv-loop μ-loop
+same-length-2 c = search laws
 
 returns-2 : tie.Need-returns-2 Inv-loop μ-loop
 returns-2 c = search laws
@@ -73,41 +62,11 @@ loop-less c = search laws
 loop-again : tie.Need-loop-again Inv-loop μ-loop
 loop-again c = search laws
 
-same-length-5 : tie.Need-same-length-5 Inv-loop μ-loop
-same-length-5 c = search laws
-
-same-length-6 : tie.Need-same-length-6 Inv-loop μ-loop
-same-length-6 c = search laws
+same-length-3 : tie.Need-same-length-3 Inv-loop μ-loop
+same-length-3 c = search laws
 
 returns-3 : tie.Need-returns-3 Inv-loop μ-loop
 returns-3 c = search laws
 
 pub run-all-spec : {M : Type 1} → statement M
-run-all-spec =
-    tie.close
-    (tie.spec
-    Inv-loop
-    μ-loop
-    new-requires
-    loop-holds
-    step-requires
-    enum-known-found
-    run-one-requires
-    plus-requires
-    enum-told
-    put-end-requires
-    same-length
-    same-length-2
-    returns
-    enum-known-found-2
-    plus-requires-2
-    put-stop-requires
-    same-length-3
-    same-length-4
-    returns-2
-    sub-turns
-    loop-less
-    loop-again
-    same-length-5
-    same-length-6
-    returns-3)
+run-all-spec = tie.close (tie.spec Inv-loop μ-loop new-requires loop-holds step-requires enum-known-found run-one-requires plus-requires enum-told put-end-requires same-length returns enum-known-found-2 put-refused-requires same-length-2 returns-2 sub-turns loop-less loop-again same-length-3 returns-3)

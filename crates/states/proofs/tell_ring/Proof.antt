@@ -1,15 +1,13 @@
--- `states::tell_ring` asks for a capacity. The loop's invariant: the buffer keeps its length. The measure is the cells that are left. Assumes nothing.
-use mathlib.Core.Path.{_≡_}
-use lib.ListN.{length}
+-- `states::tell_ring` asks for a capacity. The loop's invariant is empty. The measure is the cells that are left. Assumes nothing.
 use Rattle.states.proofs.Laws.{laws}
 use Rattle.states.proofs.tell_ring.Statement.{statement}
 use Rattle.states.proofs.tell_ring.Tie as tie
 
 abbrev Inv-loop : tie.InvT-loop
-Inv-loop area links sentinel n c cells out₀ told₀ cell₀ left₀ out told cell left = length out ≡ length out₀
+Inv-loop area links sentinel n c cells told₀ cell₀ left₀ told cell left = Unit {0}
 
 abbrev μ-loop : tie.MeasureT-loop
-μ-loop area links sentinel n c cells out₀ told₀ cell₀ left₀ out told cell left = left
+μ-loop area links sentinel n c cells told₀ cell₀ left₀ told cell left = left
 
 next-requires : tie.Need-next-requires Inv-loop μ-loop
 next-requires c κs = search laws
@@ -32,9 +30,6 @@ loop-less c = search laws
 loop-again : tie.Need-loop-again Inv-loop μ-loop
 loop-again c = search laws
 
-same-length : tie.Need-same-length Inv-loop μ-loop
-same-length c = search laws
-
 returns : tie.Need-returns Inv-loop μ-loop
 returns c = search laws
 
@@ -51,5 +46,4 @@ tell-ring-spec =
     sub-left
     loop-less
     loop-again
-    same-length
     returns)
