@@ -11,7 +11,6 @@ use lib.Dec.{ltb}
 use lib.ListN.{length, drop, getD}
 use Rattle.rules.specs.Calls.{Call, Question, Capacity, Ask, Answer, Number, Made, Refused, Done, done}
 use Rattle.rules.specs.State.{maxCapacity}
-use Rattle.rules.specs.Counts.{counted, noCounts}
 use Rattle.rules.specs.Public.{wordsNeeded, made, called}
 use Rattle.parts.specs.Parts as parts
 use Rattle.area.specs.Area.{capacityOf}
@@ -56,19 +55,16 @@ module _ (P : Policy) where
       by none x = rw x refl
       by (some s) x = rw (x, e .asks q s) refl
 
-  -- `NEW` makes an empty state, or leaves the one that is there; it counts nothing
-  pub making-is : (c : ℕ) (w v : List ℕ) (a : Answer) → Making P c w v a → (counted a ≡ noCounts) × ((reads P v ≡ some (P .new c)) ⊎ (reads P v ≡ reads P w))
+  -- `NEW` makes an empty state, or leaves the one that is there
+  pub making-is : (c : ℕ) (w v : List ℕ) (a : Answer) → Making P c w v a → (reads P v ≡ some (P .new c)) ⊎ (reads P v ≡ reads P w)
   unfolding made
   making-is c w v a m = by (ltb maxCapacity c) (ltb (length w) (wordsNeeded c)) (m .is)
     where
-      Is : Done (Option (P .State)) → Type 0
-      Is d = done a (reads P v) ≡ d
-
-      by : (x y : Bool) → Is (cond x (done (Refused 1) (reads P w)) (cond y (done (Refused 2) (reads P w)) (done Made (some (P .new c)))))
-          → (counted a ≡ noCounts) × ((reads P v ≡ some (P .new c)) ⊎ (reads P v ≡ reads P w))
-      by true y q = (ap (λ d. counted (d .answer)) q, inr (ap (λ d. d .state) q))
-      by false true q = (ap (λ d. counted (d .answer)) q, inr (ap (λ d. d .state) q))
-      by false false q = (ap (λ d. counted (d .answer)) q, inl (ap (λ d. d .state) q))
+      by : (x y : Bool) → done a (reads P v) ≡ cond x (done (Refused 1) (reads P w)) (cond y (done (Refused 2) (reads P w)) (done Made (some (P .new c))))
+          → (reads P v ≡ some (P .new c)) ⊎ (reads P v ≡ reads P w)
+      by true y q = inr (ap (λ d. d .state) q)
+      by false true q = inr (ap (λ d. d .state) q)
+      by false false q = inl (ap (λ d. d .state) q)
 
   -- READ BACK: a call keeps the capacity
   pub read-back : Exact P → (k : Call) (w v : List ℕ) (a : Answer) → Outcome P k w v a → capacityOf v ≡ capacityOf w

@@ -2,4 +2,3 @@
 pub mod Policy
 pub mod Inner
 pub mod Outer
-pub mod Runs

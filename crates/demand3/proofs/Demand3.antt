@@ -1,32 +1,39 @@
 -- DEMAND 3 of the code's public calls, from their contracts alone: the sum over any single calls one after the other (`Run`), and the replacement of an insert. Assumes nothing.
 use mathlib.Core.Path.{_≡_, refl, ap, _∙_}
-use mathlib.Core.Bool.{Bool, true, false, false≢true}
-use mathlib.Core.List.{List}
+use mathlib.Core.Bool.{Bool, true, false, false≢true, cond}
+use mathlib.Core.List.{List, [], _∷_, map}
 use mathlib.Core.Logic.{_⊎_, inl, inr}
 use mathlib.Core.Option.{Option, some, none}
 use Prim.Native.Nat.{ℕ, _+_, _≤_}
 use native.Mathlib.Omega.{arith}
 use lib.Dec.{eqb}
 use borrow.Author.Tests.{eqb-false, leb-true, le-leb}
+use Rattle.trace.specs.Reading.{readFrom}
 use Rattle.rules.specs.State.{Side, residents, resident, full}
-use Rattle.rules.specs.Calls.{Call, Insert, Ask, Answer, New, Victim, Place, ghost, nowhere, Replaced, steps, replaceIf}
-use Rattle.rules.specs.Counts.{Counts, noCounts, counted, plus, hits, outs}
+use Rattle.rules.specs.Calls.{Call, Insert, Answer, New, Finished, Stopped, Victim, Place, ghost, nowhere, Replaced, steps, replaceIf, run}
+use Rattle.rules.specs.Counts.{Counts, counted, plus, tally, hits, outs}
 use Rattle.rules.specs.Stages.{placeOf, ghostHit, isB2}
+use Rattle.rules.specs.Batch.{callOf, batch, answerOf}
+use Rattle.rules.specs.Public.{batched}
 use Rattle.rules.specs.Car as car
 use Rattle.rules.specs.Car.{Car, WellFormed, Obeys, referenced, does, new, replace, roomFor}
-use Rattle.rules.proofs.Demand3.{does-pays, Ends, demand-3-replacement}
+use Rattle.rules.proofs.RunLaws.{batch-runs}
+use Rattle.rules.proofs.Demand3.{Paid as Pays, does-pays, Ends, demand-3-replacement}
 use Rattle.rules.proofs.ClosureCar.{does-obeys, new-obeys}
 use Rattle.area.specs.Stored.{Writes}
 use Rattle.state_check.proofs.State.{car-complete, writes-read}
 use Rattle.calls.specs.Policy.{carPolicy, reads}
 use Rattle.calls.specs.Outer.{Outcome, Making}
-use Rattle.calls.specs.Runs as runs
-use Rattle.calls.specs.Runs.{Run}
-use Rattle.calls.proofs.Exact.{car-exact}
 use Rattle.calls.proofs.Reading.{reads-some}
-use Rattle.calls.proofs.Outcomes.{outcome-is, told-outcome, making-is}
+use Rattle.calls.proofs.Outcomes.{outcome-is, making-is}
+use Rattle.batch.specs.Outcomes.{countsIs, ranIs, outcome, BatchOutcome}
+use Rattle.batch.specs.declared.Counts as batches
+use Rattle.batch.specs.declared.Ran.{Ran}
+use Rattle.batch.specs.declared.Ran.the-variants as ran
+use Rattle.demand3.specs.Runs as runs
+use Rattle.demand3.specs.Runs.{ranCounts, Run}
 
--- the area v reads as a state again, and what the answers counted, n, pays for the hand steps from the state s on
+-- the area v reads as a state again, and what was counted, n, pays for the hand steps from the state s on
 pub record Paid (s : Car) (n : Counts) (v : List ℕ) : Type 0 where
   pub state : Car
   pub reads-as : reads carPolicy v ≡ some state
@@ -35,40 +42,73 @@ pub record Paid (s : Car) (n : Counts) (v : List ℕ) : Type 0 where
 writes-reads : (w : List ℕ) (s : Car) → Writes 2 w s → WellFormed s → reads carPolicy w ≡ some s
 writes-reads w s r f = reads-some carPolicy w (car-complete w s r f) ∙ ap some (writes-read 2 w s r)
 
--- a call, and then what follows it
-then : (k : Call) (a : Answer) (n : Counts) (w u v : List ℕ) (s : Car) → Obeys s → reads carPolicy w ≡ some s → Outcome carPolicy k w u a → Paid (does k s .state) n v → Paid s (plus (counted a) n) v
-then k a n w u v s o r x p =
-    let q : a ≡ does k s .answer = outcome-is carPolicy k w u a s x r .0 in
-    let y = does-pays k s o in
-    record { state = p .state; reads-as = p .reads-as; paid = rw q (omega arith) }
+-- ---- on states: from s to t, with the counts n
+record Goes (s : Car) (n : Counts) (t : Car) : Type 0 where
+  obeys : Obeys t
+  pays : Pays s n t
 
--- `new` counts nothing, and what it makes has no referenced page; `on` is what follows
-counts-nothing : (a : Answer) (n : Counts) (v : List ℕ) (s t : Car) → counted a ≡ noCounts → referenced (t .lists) ≤ referenced (s .lists) → Paid t n v → Paid s (plus (counted a) n) v
-counts-nothing a n v s t q h p = record { state = p .state; reads-as = p .reads-as; paid = rw q (omega arith) }
+-- calls, and the batch that makes them
+run-goes : (ks : List Call) (s : Car) → Obeys s → Goes s (tally (run does ks s .answers)) (run does ks s .state)
+unfolding run
+run-goes [] s o = record { obeys = o; pays = omega arith }
+run-goes (k ∷ ks) s o =
+    let g = run-goes ks (does k s .state) (does-obeys k s o) in
+    record { obeys = g .obeys; pays = omega (arith, does-pays k s o, g .pays) }
+
+batch-goes : (trace : List ℕ) (s : Car) → Obeys s → let b = batch does 0 trace s in Goes s (b .counts) (b .state)
+batch-goes trace s o =
+    let p = batch-runs does 0 0 trace s in
+    rw (p .counts, p .state) (run-goes (map callOf (readFrom 0 0 trace .operations)) s o)
 
 none-referenced : (c : ℕ) → referenced (new c .lists) ≡ 0
 unfolding new
 none-referenced c = refl
 
-after-new : (c : ℕ) (a : Answer) (n : Counts) (w u v : List ℕ) (s : Car) → Obeys s → reads carPolicy w ≡ some s → Making carPolicy c w u a
-    → ((t : Car) → Obeys t → reads carPolicy u ≡ some t → Paid t n v) → Paid s (plus (counted a) n) v
-after-new c a n w u v s o r x on = let m = making-is carPolicy c w u a x in by (m .0) (m .1)
+-- ---- on areas: something that counted m, and then what follows it
+then : (m n : Counts) (v : List ℕ) (s t : Car) → Goes s m t → Paid t n v → Paid s (plus m n) v
+then m n v s t g p = record { state = p .state; reads-as = p .reads-as; paid = omega (arith, g .pays, p .paid) }
+
+-- a batch on a state does not answer refusal 3: it counts and leaves what the rules say
+batch-is : (trace : List ℕ) (lent m : batches.Counts) (w u : List ℕ) (a : Ran) (s : Car) → BatchOutcome carPolicy trace lent w u (ranIs a) m → reads carPolicy w ≡ some s
+    → let b = batch does 0 trace s in (ranCounts a m ≡ b .counts) × (reads carPolicy u ≡ some (b .state))
+unfolding batched
+batch-is trace lent m w u a s x r =
+    let b = batch does 0 trace s in
+    let q : outcome carPolicy (ranIs a) u m ≡ record { answer = answerOf b; area = some (b .state); counts = b .counts } = x .is ∙ rw r refl in
+    (by a (eqb (b .refusal) 0) (ap (λ d. d .answer) q) (ap (λ d. d .counts) q), ap (λ d. d .area) q)
   where
-    by : counted a ≡ noCounts → (reads carPolicy u ≡ some (new c)) ⊎ (reads carPolicy u ≡ reads carPolicy w) → Paid s (plus (counted a) n) v
-    by q (inl y) = counts-nothing a n v s (new c) q (omega (arith, none-referenced c)) (on (new c) (new-obeys c) y)
-    by q (inr y) = counts-nothing a n v s s q (omega arith) (on s o (y ∙ r))
+    by : (a : Ran) (z : Bool) → let b = batch does 0 trace s in ranIs a ≡ cond z (Finished (b .done)) (Stopped (b .refusal) (b .offset)) → countsIs m ≡ b .counts → ranCounts a m ≡ b .counts
+    by (ran.Done n) z e h = h
+    by (ran.Stopped i o) z e h = h
+    by ran.Refused true e h = absurd (let z : _≡_ {A = ℕ} 0 1 = cc in let y : ⊥ = omega arith in y)
+    by ran.Refused false e h = absurd (let z : _≡_ {A = ℕ} 0 1 = cc in let y : ⊥ = omega arith in y)
+
+after-new : (c : ℕ) (a : Answer) (n : Counts) (w u v : List ℕ) (s : Car) → Obeys s → reads carPolicy w ≡ some s → Making carPolicy c w u a
+    → ((t : Car) → Obeys t → reads carPolicy u ≡ some t → Paid t n v) → Paid s n v
+after-new c a n w u v s o r x on = by (making-is carPolicy c w u a x)
+  where
+    by : (reads carPolicy u ≡ some (new c)) ⊎ (reads carPolicy u ≡ reads carPolicy w) → Paid s n v
+    by (inl y) = let p = on (new c) (new-obeys c) y in record { state = p .state; reads-as = p .reads-as; paid = omega (arith, none-referenced c) }
+    by (inr y) = on s o (y ∙ r)
 
 pays : {w v : List ℕ} {n : Counts} → (s : Car) → Obeys s → reads carPolicy w ≡ some s → Run carPolicy w n v → Paid s n v
 pays s o r runs.none = record { state = s; reads-as = r; paid = omega arith }
 pays s o r (runs.call {k} {a} {n} {w} {u} {v} x l) =
-    then k a n w u v s o r x (pays (does k s .state) (does-obeys k s o) (outcome-is carPolicy k w u a s x r .1) l)
-pays s o r (runs.ask {q} {a} {n} {w} {v} x l) =
-    let y = told-outcome carPolicy car-exact q w a x in
-    then (Ask q) a n w w v s o r y (pays (does (Ask q) s .state) (does-obeys (Ask q) s o) (outcome-is carPolicy (Ask q) w w a s y r .1) l)
+    let y = outcome-is carPolicy k w u a s x r in
+    let t = does k s .state in
+    let g : Goes s (counted a) t = rw (y .0) (record { obeys = does-obeys k s o; pays = does-pays k s o }) in
+    then (counted a) n v s t g (pays t (g .obeys) (y .1) l)
+pays s o r (runs.batch {trace} {lent} {m} {n} {w} {u} {v} a x l) =
+    let y = batch-is trace lent m w u a s x r in
+    let t = batch does 0 trace s .state in
+    let g : Goes s (ranCounts a m) t = rw (y .0) (batch-goes trace s o) in
+    then (ranCounts a m) n v s t g (pays t (g .obeys) (y .1) l)
 pays s o r (runs.new {c} {a} {n} {w} {u} {v} x l) = after-new c a n w u v s o r x (λ t p q. pays t p q l)
+pays s o r (runs.ask x l) = pays s o r l
+pays s o r (runs.list x l) = pays s o r l
 
 -- "For CAR, from any well-formed state with r0 referenced pages and over any calls: hand steps plus pages still referenced at the end never exceed r0 plus hits
--- plus evictions."
+-- plus evictions.": any public calls, batches and listings among them (`Run`)
 pub demand-3 : (w v : List ℕ) (s : Car) (n : Counts) → Writes 2 w s → WellFormed s → Run carPolicy w n v → Paid s n v
 demand-3 w v s n r f l = pays s (f .obeys) (writes-reads w s r f) l
 

@@ -1,0 +1,2 @@
+-- The runs that demand 3 speaks of. Assumes nothing.
+pub mod Runs
