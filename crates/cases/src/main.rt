@@ -251,13 +251,26 @@ fn put_held(area: &[u64], kind: Kind, page: u64) {
     }
 }
 
+fn put_low(area: &[u64], kind: Kind) {
+    put_held(area, kind, 1);
+    put_held(area, kind, 2);
+    put_held(area, kind, 3);
+    put_held(area, kind, 4);
+    put_held(area, kind, 5);
+}
+
+fn put_high(area: &[u64], kind: Kind) {
+    put_held(area, kind, 6);
+    put_held(area, kind, 7);
+    put_held(area, kind, 8);
+    put_held(area, kind, 9);
+    put_held(area, kind, 10);
+}
+
 fn put_holds(area: &[u64], kind: Kind) {
     telling::word(b"; holds");
-    let mut page: u64 = 1;
-    while page < 11 {
-        put_held(area, kind, page);
-        page += 1;
-    }
+    put_low(area, kind);
+    put_high(area, kind);
 }
 
 fn put_facts(area: &[u64], kind: Kind) {
