@@ -1,10 +1,11 @@
 #!/usr/bin/env python3
-"""pace.py PLACES [--rounds N] [--capacities A,B,..] [--count] TRACE..: times the batch against the Rust and a plain C cache, each a program that runs a trace again and
+"""pace.py PLACES [--rounds N] [--capacities A,B,..] [--count] [--least] TRACE..: times the batch against the Rust and a plain C cache, each a program that runs a trace again and
 again on fresh caches. PLACES names the programs, `rattle=PATH rust=PATH c=PATH`, one word; bench/pace builds them and calls this.
 
 A program's time for an operation is the processor time of a run with many repeats less that of a run with one, over the operations between: start-up and the reading of
 the input cancel. The programs take turns, round after round. A ratio is that of the two medians; its spread, the least and the greatest ratio of a round. With --count the
-instructions are counted the same way under valgrind, once, since they do not vary."""
+instructions are counted the same way under valgrind, once, since they do not vary. With --least a program's time is the least of its rounds and not the median: for a machine
+that others share, whose processor is at times half as fast, so that two medians come from different times."""
 import os
 import re
 import statistics
@@ -14,6 +15,7 @@ import tempfile
 
 ENOUGH = 0.12  # seconds of processor time that the many repeats are to take
 NAMES = {1: "ARC", 2: "CAR"}
+middle = statistics.median  # or min
 
 
 def words(programs, name, kind, capacity, repeats, trace):
@@ -95,7 +97,7 @@ class Case:
             self.executed[name] = (instructions(self.command(name, 2), self.trace) - instructions(self.command(name, 1), self.trace)) / self.operations
 
     def time(self, name):
-        return statistics.median(self.times[name])
+        return middle(self.times[name])
 
     def ratio(self, name):
         return self.time("rattle") / self.time(name)
@@ -150,6 +152,7 @@ def judged(cases):
 
 
 def main(arguments):
+    global middle
     programs = dict(word.split("=", 1) for word in arguments.pop(0).split())
     rounds, capacities, counted, traces = 7, [64, 256, 1024], False, []
     while arguments:
@@ -160,6 +163,8 @@ def main(arguments):
             capacities = [int(n) for n in arguments.pop(0).split(",")]
         elif word == "--count":
             counted = True
+        elif word == "--least":
+            middle = min
         else:
             traces.append(word)
     cases = []
@@ -174,7 +179,8 @@ def main(arguments):
     if counted:
         for case in cases:
             case.count()
-    print(f"{len(cases)} cases, {rounds} rounds, the programs in turn; nanoseconds of processor time an operation, medians; ratios of medians, with the least and the greatest of a round.\n")
+    said = "least times" if middle is min else "medians"
+    print(f"{len(cases)} cases, {rounds} rounds, the programs in turn; nanoseconds of processor time an operation, {said}; ratios of {said}, with the least and the greatest of a round.\n")
     print(head(counted))
     for case in cases:
         print(case.line())
