@@ -18,7 +18,7 @@ use Rattle.rules.specs.Public.{batched}
 use Rattle.rules.specs.Car as car
 use Rattle.rules.specs.Car.{Car, WellFormed, Obeys, referenced, does, new, replace, roomFor}
 use Rattle.rules.proofs.RunLaws.{batch-runs}
-use Rattle.rules.proofs.Demand3.{Paid as Pays, does-pays, Ends, demand-3-replacement}
+use Rattle.rules.proofs.Demand3.{Paid as Pays, does-pays, run-pays, Ends, demand-3-replacement}
 use Rattle.rules.proofs.ClosureCar.{does-obeys, new-obeys}
 use Rattle.area.specs.Stored.{Writes}
 use Rattle.state_check.proofs.State.{car-complete, writes-read}
@@ -48,17 +48,17 @@ record Goes (s : Car) (n : Counts) (t : Car) : Type 0 where
   pays : Pays s n t
 
 -- calls, and the batch that makes them
-run-goes : (ks : List Call) (s : Car) → Obeys s → Goes s (tally (run does ks s .answers)) (run does ks s .state)
+run-obeys : (ks : List Call) (s : Car) → Obeys s → Obeys (run does ks s .state)
 unfolding run
-run-goes [] s o = record { obeys = o; pays = omega arith }
-run-goes (k ∷ ks) s o =
-    let g = run-goes ks (does k s .state) (does-obeys k s o) in
-    record { obeys = g .obeys; pays = omega (arith, does-pays k s o, g .pays) }
+run-obeys [] s o = o
+run-obeys (k ∷ ks) s o = run-obeys ks (does k s .state) (does-obeys k s o)
 
 batch-goes : (trace : List ℕ) (s : Car) → Obeys s → let b = batch does 0 trace s in Goes s (b .counts) (b .state)
 batch-goes trace s o =
     let p = batch-runs does 0 0 trace s in
-    rw (p .counts, p .state) (run-goes (map callOf (readFrom 0 0 trace .operations)) s o)
+    let ks = map callOf (readFrom 0 0 trace .operations) in
+    let g : Goes s (tally (run does ks s .answers)) (run does ks s .state) = record { obeys = run-obeys ks s o; pays = run-pays ks s o } in
+    rw (p .counts, p .state) g
 
 none-referenced : (c : ℕ) → referenced (new c .lists) ≡ 0
 unfolding new

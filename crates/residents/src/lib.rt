@@ -104,8 +104,8 @@ fn set_slot(w: &mut [u64], c: usize, e: usize, f: u64, i: usize, b: u64)
     set_bit(w, c, e, b);
 }
 
-// A slot goes from list i to list j: the counts. Where it stays in its list, as most that are hit do, they stay too: two stores to one word, each waiting for
-// the one before it, took a sixth of a hit.
+// A slot goes from list i to list j: the counts. Where it stays in its list, as most that are hit do, they stay too (D61
+// of docs/DECISIONS.md).
 fn recount(w: &mut [u64], c: usize, i: usize, j: usize)
     requires { ⌜ CanRecount (now w) c i j ⌝ }
     ensures { λ _. ⌜ now (w .exit) ≡ recounted i j (now (w .entry)) ⌝ }

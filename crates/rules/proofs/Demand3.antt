@@ -105,7 +105,7 @@ does-pays (Ask q) s w = ask-pays q s
 abbrev pub Paid : Car → Counts → Car → Type 0
 Paid s n t = n .steps + referenced (t .lists) ≤ referenced (s .lists) + hits n + n .evictions
 
-run-pays : (ks : List Call) (s : Car) → Obeys s → Paid s (tally (run does ks s .answers)) (run does ks s .state)
+pub run-pays : (ks : List Call) (s : Car) → Obeys s → Paid s (tally (run does ks s .answers)) (run does ks s .state)
 unfolding run
 run-pays [] s w = omega arith
 run-pays (k ∷ ks) s w = omega (arith, does-pays k s w, run-pays ks (does k s .state) (does-obeys k s w))

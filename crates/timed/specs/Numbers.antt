@@ -1,6 +1,6 @@
 -- Answers as numbers, for C. Assumes nothing.
 use mathlib.Core.Bool.{Bool, cond}
-use Prim.Native.Nat.{ℕ}
+use Prim.Native.Nat.{ℕ, _-_}
 use lib.Dec.{eqb, ltb}
 use Rattle.rules.specs.Calls as rules
 use Rattle.rules.specs.Calls.{Answer}
@@ -16,6 +16,6 @@ abbrev pub refusal : declared.Made → ℕ
 refusal Made = 0
 refusal (Refused n) = n
 
--- what a get answers, by its number: a frame, a miss, or refusal 3
+-- what a get answers, by its number: a frame, 2^32 for a miss, or 2^32 and the number of a refusal; no answer has two numbers
 abbrev pub gotAt : ℕ → Answer
-gotAt n = cond (ltb n 4294967296) (rules.Hit n) (cond (eqb n 4294967296) rules.Miss (rules.Refused 3))
+gotAt n = cond (ltb n 4294967296) (rules.Hit n) (cond (eqb n 4294967296) rules.Miss (rules.Refused (n - 4294967296)))
