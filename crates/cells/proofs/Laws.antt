@@ -1,13 +1,13 @@
 -- The laws of cells: all that other crates know of how a cell's two numbers lie in words.
--- In order: which cells there are; what a store does to the cell's number, to the other number, to other cells, to the length; the sets for `search` and `simp`.
+-- In order: which cells there are; what a store does to the cell's number, to the other number, to other cells, to the length; two stores, and a store of what is there; the sets for `search` and `simp`.
 -- That a store reads back is stated for numbers of cells only (`In w x`): a layout that packs the numbers can hold no others.
 -- Assumes nothing.
-use mathlib.Core.Path.{_≡_}
+use mathlib.Core.Path.{_≡_, sym, ap, _∙_}
 use mathlib.Core.List.{List}
 use Prim.Native.Nat.{ℕ, suc, _+_, _*_, _<_, _≤_}
 use native.Mathlib.Omega.{arith}
 use lib.ListN.{length, getD, set, length-set}
-use lib.Seq.{getD-set-same, getD-set-other}
+use lib.Seq.{getD-set-same, getD-set-other, set-set, set-comm, set-getD}
 use Rattle.cells.specs.Cells.{wordsOf, Cells, In, nextOf, prevOf, withNext, withPrev, CanLink}
 
 -- which cells there are
@@ -78,6 +78,27 @@ in-withPrev w e x z h = in-length w (withPrev w e x) z (length-withPrev w e x) h
 
 pub can-link : (w : List ℕ) (e x : ℕ) → In w e → In w x → CanLink w e x
 can-link w e x h i = record { cell = h; to = i }
+
+-- a store over a store, a store of each number, and a store of what is there
+pub withNext-again : (w : List ℕ) (e x y : ℕ) → withNext (withNext w e x) e y ≡ withNext w e y
+unfolding withNext
+withNext-again w e x y = set-set w (2 * e) x y
+
+pub withPrev-again : (w : List ℕ) (e x y : ℕ) → withPrev (withPrev w e x) e y ≡ withPrev w e y
+unfolding withPrev
+withPrev-again w e x y = set-set w (2 * e + 1) x y
+
+pub withNext-withPrev : (w : List ℕ) (a x b y : ℕ) → withNext (withPrev w a x) b y ≡ withPrev (withNext w b y) a x
+unfolding withNext withPrev
+withNext-withPrev w a x b y = set-comm w (2 * a + 1) (2 * b) x y (omega arith)
+
+pub withNext-own : (w : List ℕ) (e x : ℕ) → nextOf w e ≡ x → withNext w e x ≡ w
+unfolding withNext nextOf
+withNext-own w e x q = ap (set w (2 * e)) (sym q) ∙ set-getD w (2 * e) 0
+
+pub withPrev-own : (w : List ℕ) (e x : ℕ) → prevOf w e ≡ x → withPrev w e x ≡ w
+unfolding withPrev prevOf
+withPrev-own w e x q = ap (set w (2 * e + 1)) (sym q) ∙ set-getD w (2 * e + 1) 0
 
 pub ruleset lengths = (length-withNext, length-withPrev)
 

@@ -17,6 +17,7 @@ use Rattle.rings.proofs.Members.{same-or-other, not-mem, fresh, mem-app
 use Rattle.rings.proofs.Pigeons.{few, covers}
 use Rattle.rings.proofs.Ring.{ring-distinct, insert-ring, insert-other, detach-ring, detach-other, apart}
 use Rattle.rings.proofs.Moves.{can-front, can-end, front-to, front-other, end-to, end-other, replace-ring, replace-other}
+use Rattle.rings.proofs.Words.{front-through, end-through}
 use Rattle.rings.proofs.Reading.{ring-members}
 
 pub changed-here : (P : ℕ → List ℕ) (j : ℕ) (xs : List ℕ) → changed P j xs j ≡ xs
@@ -80,6 +81,18 @@ module _ (w : List ℕ) (m k : ℕ) (P : ℕ → List ℕ) (r : Rings w m k P) w
       front-rings =
           changed-rings (fronted (m + j) e w) m k j (outOf i e P) (e ∷ outOf i e P j) (front-to w m (m + i) (P i) (r i hi) e l (m + j) (outOf i e P j) (detach-rings j hj) (detach-fresh j hj))
           (λ u hu n. front-other w m (m + i) (P i) (r i hi) e l (m + j) (outOf i e P j) (detach-rings j hj) (m + u) (outOf i e P u) (detach-rings u hu) (omega arith) (detach-fresh u hu))
+
+      -- it is then the first
+      pub front-first : nextOf (fronted (m + j) e w) (m + j) ≡ e
+      front-first = front-to w m (m + i) (P i) (r i hi) e l (m + j) (outOf i e P j) (detach-rings j hj) (detach-fresh j hj) .links .0
+
+      -- from there to another ring: as if it had come there at once
+      module _ (u : ℕ) (hu : u < k) where
+        pub front-through-rings : fronted (m + u) e (fronted (m + j) e w) ≡ fronted (m + u) e w
+        front-through-rings = front-through w m (m + j) e (outOf i e P j) (below-mem m (P i) e (r i hi .below) l) (detach-rings j hj) (detach-fresh j hj) (m + u) (outOf i e P u) (detach-rings u hu) (detach-fresh u hu)
+
+        pub end-through-rings : ended (m + u) e (fronted (m + j) e w) ≡ ended (m + u) e w
+        end-through-rings = end-through w m (m + j) e (outOf i e P j) (below-mem m (P i) e (r i hi .below) l) (detach-rings j hj) (detach-fresh j hj) (m + u) (outOf i e P u) (detach-rings u hu) (detach-fresh u hu)
 
       pub end-rings : Rings (ended (m + j) e w) m k (endedIn i j e P)
       end-rings =

@@ -4,6 +4,7 @@ pub mod Pigeons
 pub mod Links
 pub mod Ring
 pub mod Moves
+pub mod Words
 pub mod Reading
 pub mod Following
 pub mod Walks

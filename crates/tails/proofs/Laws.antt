@@ -3,8 +3,8 @@ use mathlib.Core.Path.{_≡_, refl, sym, ap, _∙_}
 use mathlib.Core.List.{List, [], _∷_, _++_, append-nil}
 use Prim.Native.Nat.{ℕ, zero, suc, _+_, _-_, _<_, _≤_}
 use native.Mathlib.Omega.{arith}
-use lib.ListN.{length, getD, set, take, drop, length-append, length-drop, length-set, List·getD-append}
-use lib.Seq.{take-at, drop-at, length-take-le, drop-length, drop-set-lt, take-set-lt, getD-take, getD-drop, take-take, getD-set-same, getD-set-other}
+use lib.ListN.{length, getD, set, take, drop, length-append, length-drop, length-set, take-append-drop, List·getD-append}
+use lib.Seq.{take-at, drop-at, length-take-le, drop-length, drop-set-lt, take-set-lt, getD-take, getD-drop, take-take, getD-set-same, getD-set-other, set-append-left}
 use borrow.Rule.Slice.PartAt.{part-to-end}
 use borrow.Rule.Slice.PartMut.{putMid}
 use Rattle.tails.specs.Tails.{tailOf, withTail}
@@ -46,7 +46,17 @@ module _ (a : ℕ) (l w : List ℕ) (h : a ≤ length w) where
   unfolding withTail
   withTail-withTail k = ap (λ (t : List ℕ). t ++ k) (take-at (take a w) l a (length-take-le a w h))
 
--- a store before the tail
+  -- a word stored before a tail that was put in its place
+  pub set-withTail : (i v : ℕ) → i < a → set (withTail a l w) i v ≡ withTail a l (set w i v)
+  unfolding withTail
+  set-withTail i v k = let z : length (take a w) ≡ a = length-take-le a w h in set-append-left (take a w) l i v (omega arith) ∙ ap (λ (t : List ℕ). t ++ l) (sym (take-set-lt a w i v k))
+
+-- the own tail put back
+pub withTail-own : (a : ℕ) (w : List ℕ) → withTail a (tailOf a w) w ≡ w
+unfolding withTail tailOf
+withTail-own a w = take-append-drop a w
+
+-- the tail where a word before it is stored
 pub tail-set : (a i v : ℕ) (w : List ℕ) → i < a → tailOf a (set w i v) ≡ tailOf a w
 unfolding tailOf
 tail-set a i v w h = drop-set-lt a w i v h
