@@ -6,6 +6,7 @@ pub mod Steps
 pub mod Slots
 pub mod Making
 pub mod Needs
+pub mod Exchange
 pub mod Tests
 pub mod Checking
 pub mod Cases

@@ -93,6 +93,11 @@ pub record CanAdd (w : List ℕ) (c j : ℕ) : Type 0 where
   pub side : j < 2
   pub room : 0 < length (listsOf w c 2)
 
+-- a slot that holds a resident, and the list that its next one comes to
+pub record CanExchange (w : List ℕ) (c e j : ℕ) : Type 0 where
+  pub resident : IsResident w c e
+  pub side : j < 2
+
 -- a word of a slot is there
 pub record HasSlot (w : List ℕ) (c e : ℕ) : Type 0 where
   pub room : Room w c

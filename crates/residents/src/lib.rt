@@ -12,7 +12,7 @@ ghost use Rattle.cells.specs.Cells.{nextOf, prevOf};
 ghost use Rattle.rings.specs.Rings.{CanFront, CanEnd};
 ghost use Rattle.rings.specs.Walks.{ahead, behind};
 ghost use Rattle.residents.specs.Residents.{linksOf, countOf, frameOf, listOf, bitOf, Room};
-ghost use Rattle.residents.specs.Changes.{withFrame, withList, withBit, withSlot, recounted, shiftedFront, shiftedEnd, CanRecount, CanShift, promoted, sentBack, freed, addedFront, addedEnd, Added, freshLinks, made, IsResident, CanAdd, HasSlot, HasList};
+ghost use Rattle.residents.specs.Changes.{withFrame, withList, withBit, withSlot, recounted, shiftedFront, shiftedEnd, CanRecount, CanShift, promoted, sentBack, freed, addedFront, addedEnd, Added, freshLinks, made, IsResident, CanAdd, CanExchange, HasSlot, HasList};
 ghost use Rattle.residents.specs.Tests.{countsTest, ringAt, slotTest, sideTest, residentsTest, CanStep};
 
 // How many slots list i has.
@@ -189,6 +189,27 @@ pub fn add_end(w: &mut [u64], c: usize, j: usize, f: u64, b: u64) -> usize
     shift_end(w, c, 2, j, e);
     set_slot(w, c, e, f, j, b);
     e
+}
+
+// The resident of slot e leaves, and a new one comes in its slot, at the front of list j: what `free` and then `add_front` leave, without the
+// way through the free slots.
+pub fn exchange_front(w: &mut [u64], c: usize, e: usize, j: usize, f: u64, b: u64)
+    requires { ⌜ CanExchange (now w) c e j ⌝ }
+    ensures { λ _. ⌜ now (w .exit) ≡ addedFront c j f b (freed c e (now (w .entry))) ⌝ }
+{
+    let i = list(w, c, e);
+    shift_front(w, c, i, j, e);
+    set_slot(w, c, e, f, j, b);
+}
+
+// The same at the end of list j: what `free` and then `add_end` leave.
+pub fn exchange_end(w: &mut [u64], c: usize, e: usize, j: usize, f: u64, b: u64)
+    requires { ⌜ CanExchange (now w) c e j ⌝ }
+    ensures { λ _. ⌜ now (w .exit) ≡ addedEnd c j f b (freed c e (now (w .entry))) ⌝ }
+{
+    let i = list(w, c, e);
+    shift_end(w, c, i, j, e);
+    set_slot(w, c, e, f, j, b);
 }
 
 // The links of no residents: the free slots are 0, 1, 2 and so on.
