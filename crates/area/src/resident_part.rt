@@ -4,7 +4,7 @@ ghost use Prim.Native.Nat.{_+_, _*_, _<_, _≤_};
 ghost use lib.ListN.{length};
 ghost use Rattle.cells.specs.Cells.{nextOf, prevOf};
 ghost use Rattle.residents.specs.Residents.{linksOf, countOf, frameOf, listOf, bitOf};
-ghost use Rattle.residents.specs.Changes.{withFrame, withBit, promoted, sentBack, freed, topOf, addedFront, addedEnd, IsResident, CanAdd};
+ghost use Rattle.residents.specs.Changes.{withFrame, withBit, promoted, sentBack, freed, topOf, addedFront, addedEnd, IsResident, CanAdd, CanExchange};
 ghost use Rattle.parts.specs.Parts.{setResidents};
 ghost use Rattle.area.specs.Area.{residentsIn, partsOf, Fit, Became, Answered};
 
@@ -127,4 +127,21 @@ pub fn add_end(area: &mut [u64], c: usize, j: usize, f: u64, bit: u64) -> usize
 {
     let b = 5 * c + 52;
     residents::add_end(&mut area[43..b], c, j, f, bit)
+}
+
+// The resident of slot e leaves, and a new one comes in its slot, at the front, or at the end, of list j.
+pub fn exchange_front(area: &mut [u64], c: usize, e: usize, j: usize, f: u64, bit: u64)
+    requires { ⌜ Fit c (now area) (CanExchange (residentsIn c (now area)) c e j) ⌝ }
+    ensures { λ _. ⌜ Became c (now (area .entry)) (now (area .exit)) (setResidents (addedFront c j f bit (freed c e (residentsIn c (now (area .entry))))) (partsOf c (now (area .entry)))) ⌝ }
+{
+    let b = 5 * c + 52;
+    residents::exchange_front(&mut area[43..b], c, e, j, f, bit);
+}
+
+pub fn exchange_end(area: &mut [u64], c: usize, e: usize, j: usize, f: u64, bit: u64)
+    requires { ⌜ Fit c (now area) (CanExchange (residentsIn c (now area)) c e j) ⌝ }
+    ensures { λ _. ⌜ Became c (now (area .entry)) (now (area .exit)) (setResidents (addedEnd c j f bit (freed c e (residentsIn c (now (area .entry))))) (partsOf c (now (area .entry)))) ⌝ }
+{
+    let b = 5 * c + 52;
+    residents::exchange_end(&mut area[43..b], c, e, j, f, bit);
 }
