@@ -12,15 +12,16 @@ use borrow.Author.Needs.{needs}
 use Rattle.cells.specs.Cells.{In, nextOf, prevOf}
 use Rattle.cells.proofs.Laws.{in-below, in-length}
 use Rattle.rings.specs.Members.{Mem}
-use Rattle.rings.specs.Rings.{fronted, ended, emptied, filled, CanFront, CanEnd, CanFill}
+use Rattle.rings.specs.Rings.{Ring, fronted, ended, emptied, filled, CanFront, CanEnd, CanFill}
 use Rattle.rings.specs.Walks.{CanWalk}
 use Rattle.rings.proofs.Members.{same-or-other}
-use Rattle.rings.proofs.Ring.{length-emptied}
+use Rattle.rings.proofs.Ring.{ring-after, length-emptied}
 use Rattle.rings.proofs.Moves.{length-fronted, length-ended}
+use Rattle.rings.proofs.Words.{front-stays}
 use Rattle.rings.proofs.Filling.{length-filled}
 use Rattle.rings.proofs.Reading.{first-member}
 use Rattle.tails.specs.Tails.{tailOf, withTail, Tail}
-use Rattle.tails.proofs.Laws.{tail-withTail, withTail-withTail, same-length-withTail}
+use Rattle.tails.proofs.Laws.{tail-withTail, withTail-withTail, same-length-withTail, withTail-own}
 use Rattle.residents.specs.Residents.{linksOf, countOf, listOf, Room, Residents, listsOf}
 use Rattle.residents.specs.Changes.{withFrame, withList, withBit, recounted, shifted, shiftedFront, shiftedEnd, CanRecount, CanShift, promoted, sentBack, freed, topOf, addedFront, addedEnd, Added, made, IsResident, CanAdd, HasSlot, HasList}
 use Rattle.residents.proofs.Words as W
@@ -132,6 +133,34 @@ module _ (w : List ℕ) (c e : ℕ) (h : IsResident w c e) where
 
     pub after-end-listed : (v u : List ℕ) (j : ℕ) → j < 3 → v ≡ shiftedEnd c i j e w → u ≡ withList c e j v → HasSlot u c e
     after-end-listed v u j hj p z = has-list v u c e j (after-end v j hj p) z
+
+  pub resident-lists : (i : ℕ) → i < 3 → HasList w c i
+  resident-lists i hi = record { room = h .residents .room; list = hi }
+
+  -- the first of T2 comes to the front of T2: nothing changes
+  module _ (x : ℕ) (p : x ≡ nextOf (tailOf (3 + 3 * c) w) (c + 1)) (z : x ≡ e) where
+    ring : Ring (linksOf c w) c (c + 1) (listsOf w c 1)
+    ring = h .residents .rings 1 (omega arith)
+
+    is-first : nextOf (linksOf c w) (c + 1) ≡ e
+    is-first = sym p ∙ z
+
+    in-second : listOf w c e ≡ 1
+    in-second =
+        let k : e < c = resident-slot .slot in
+        ⊎-elim (λ q. let a : nextOf (linksOf c w) (c + 1) ≡ e = is-first in absurd (let n : ⊥ = omega arith in n)) (λ m. h .residents .slots 1 e (omega arith) (rw is-first at m) .list)
+        (ring-after (linksOf c w) c (c + 1) (listsOf w c 1) ring (c + 1) (inl refl))
+
+    shift-stays : shiftedFront c 1 1 e w ≡ w
+    unfolding shifted
+    shift-stays =
+        ap (λ (l : List ℕ). withTail (3 + 3 * c) l (recounted 1 1 w)) (front-stays (linksOf c w) c (c + 1) e (listsOf w c 1) ring (resident-slot .slot) is-first)
+        ∙ ap (withTail (3 + 3 * c) (linksOf c w)) (sym (recount-stays w c 1 1 (resident-front 1 (sym in-second) 1 (omega arith) .counts) refl))
+        ∙ withTail-own (3 + 3 * c) w
+
+    pub promote-stays : w ≡ promoted c e w
+    unfolding promoted
+    promote-stays = sym (ap (λ (i : ℕ). withList c e 1 (shiftedFront c i 1 e w)) in-second ∙ ap (withList c e 1) shift-stays ∙ W.withList-own w c e 1 in-second)
 
 -- a free slot is taken
 module _ (w : List ℕ) (c j e : ℕ) (h : CanAdd w c j) (q : e ≡ nextOf (tailOf (3 + 3 * c) w) (c + 2)) where

@@ -5,7 +5,7 @@ use mathlib.Core.List.{List}
 use Prim.Native.Nat.{ℕ, _+_, _-_, _*_, _<_, _≤_}
 use native.Mathlib.Omega.{arith}
 use lib.ListN.{length, getD, set, length-set}
-use lib.Seq.{getD-set-same, getD-set-other}
+use lib.Seq.{getD-set-same, getD-set-other, set-getD}
 use Rattle.cells.specs.Cells.{In}
 use Rattle.cells.proofs.Laws.{in-length}
 use Rattle.tails.specs.Tails.{tailOf, withTail}
@@ -103,6 +103,11 @@ module _ (w : List ℕ) (c e : ℕ) (h : e < c) where
     pub bit-here : (b : ℕ) → bitOf (withBit c e b w) c e ≡ b
     unfolding withBit bitOf
     bit-here b = getD-set-same w (3 + 2 * c + e) b 0 (omega arith)
+
+-- a list number that is there already
+pub withList-own : (w : List ℕ) (c e i : ℕ) → listOf w c e ≡ i → withList c e i w ≡ w
+unfolding withList listOf
+withList-own w c e i q = ap (set w (3 + c + e)) (sym q) ∙ set-getD w (3 + c + e) 0
 
 -- the counts of a shift
 pub length-recounted : (i j : ℕ) (w : List ℕ) → length (recounted i j w) ≡ length w

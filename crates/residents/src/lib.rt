@@ -139,11 +139,14 @@ fn shift_end(w: &mut [u64], c: usize, i: usize, j: usize, e: usize)
     tails::to_end(w, a, s, e);
 }
 
-// The resident of slot e comes to the front of T2.
+// The resident of slot e comes to the front of T2. Where it is there already, nothing is written.
 pub fn promote(w: &mut [u64], c: usize, e: usize)
     requires { ⌜ IsResident (now w) c e ⌝ }
     ensures { λ _. ⌜ now (w .exit) ≡ promoted c e (now (w .entry)) ⌝ }
 {
+    if first(w, c, 1) == e {
+        return;
+    }
     let i = list(w, c, e);
     shift_front(w, c, i, 1, e);
     set_list(w, c, e, 1);

@@ -43,14 +43,18 @@ module _ (w : List ℕ) (p e n : ℕ) (ip : In w p) (ie : In w n) (pe : p ≡ e 
       rw (detached-is, q, one, two, three) four
 
 -- the first of a ring comes to the front: nothing changes
-pub front-stays : (w : List ℕ) (m s e : ℕ) (xs : List ℕ) → Ring w m s (e ∷ xs) → fronted s e w ≡ w
+first-stays : (w : List ℕ) (m s e : ℕ) (xs : List ℕ) → Ring w m s (e ∷ xs) → fronted s e w ≡ w
 unfolding fronted
-front-stays w m s e xs r =
+first-stays w m s e xs r =
     let f : Fresh s (e ∷ xs) = ring-fresh w m s (e ∷ xs) r in
     let at : In w (nextOf w e) = ring-in w m s (e ∷ xs) r (nextOf w e) (ring-after w m s (e ∷ xs) r e (inr (inl refl))) in
     let ne : nextOf w e ≡ e → ⊥ = not-after-itself w s (e ∷ xs) s (r .links) f f e (inl refl) in
     ap (λ (n : ℕ). inserted n e (detached e w)) (next-over w s e (nextOf w e) (r .root) at (f .0) ne (r .links .1) refl)
     ∙ insert-back w s e (nextOf w e) (r .root) at (f .0) ne (r .links .1) refl (r .links .0) (first-back w e xs s (r .links .2))
+
+pub front-stays : (w : List ℕ) (m s e : ℕ) (xs : List ℕ) → Ring w m s xs → e < m → nextOf w s ≡ e → fronted s e w ≡ w
+front-stays w m s e [] r h q = let high : m ≤ s = r .high in let z : nextOf w s ≡ s = r .links .0 in absurd (let n : ⊥ = omega arith in n)
+front-stays w m s e (x ∷ xs) r h q = first-stays w m s e xs (rw (sym (r .links .0) ∙ q) at r)
 
 -- A CELL THAT IS PUT IN AND TAKEN OUT AGAIN: all is as it was but its own numbers
 unfoldable own : ℕ → ℕ → ℕ → List ℕ → List ℕ
