@@ -19,7 +19,7 @@ use Rattle.rings.proofs.Members.{length-without}
 use Rattle.rings.proofs.Ring.{length-emptied}
 use Rattle.tails.specs.Tails.{tailOf, withTail, Tail}
 use Rattle.tails.proofs.Laws.{tail-withTail, withTail-withTail, word-withTail, same-length-withTail}
-use Rattle.ghosts.specs.Ghosts.{countOf, linksOf, ghostWords, Room, Ghosts, liveOf, spareOf, CanRecord, CanForget, Recorded, cellFor, countFor, recordCell, recorded, forgotten, made, ghostsTest}
+use Rattle.ghosts.specs.Ghosts.{countOf, linksOf, ghostWords, Room, Ghosts, liveOf, spareOf, Counted, CanRecord, CanForget, Recorded, countFor, recordCell, recorded, forgotten, made, ghostsTest}
 use Rattle.ghosts.proofs.Parts.{list-in}
 use Rattle.ghosts.proofs.Laws.{can-forget}
 use Rattle.ghosts.proofs.Recording.{Records, isSpare, records}
@@ -27,39 +27,48 @@ use Rattle.ghosts.proofs.Recording.{Records, isSpare, records}
 pub asks-list : (w : List ℕ) (c : ℕ) → Room w c → Tail w 1 (In (tailOf 1 w) c)
 asks-list w c r = record { within = r .head; can = list-in w c r }
 
+-- the cell that is given next
+module _ (w : List ℕ) (c n : ℕ) (k : Counted w c n) where
+  pub asks-cells : Tail w 1 (In (tailOf 1 w) c)
+  asks-cells = asks-list w c (k .room)
+
+  pub picks-spare : (r : ℕ) → n < c → r ≡ nextOf (tailOf 1 w) (c + 1) → r ≡ recordCell c w
+  unfolding recordCell
+  picks-spare r h z = rw (lt-ltb (countOf w) c (rw (k .count) at h)) z
+
+  pub picks-oldest : (r : ℕ) → c ≤ n → r ≡ prevOf (tailOf 1 w) c → r ≡ recordCell c w
+  unfolding recordCell
+  picks-oldest r h z = rw (le-ltb (countOf w) c (rw (k .count) at h)) z
+
 -- a page is recorded
-module _ (w : List ℕ) (c e : ℕ) (can : CanRecord w c) where
-  all : Records w c (liveOf w c) (spareOf w c) (isSpare (spareOf w c))
-  all = records w c (liveOf w c) (spareOf w c) (can .some) (can .ghosts)
-
-  asks-as : (t : Bool) → ltb (countOf w) c ≡ t → e ≡ cellFor t c (tailOf 1 w) → Tail w 1 (CanFront (tailOf 1 w) c e)
-  asks-as t q z =
-      let s : isSpare (spareOf w c) ≡ t = sym (all .spared) ∙ q in
-      record { within = can .ghosts .room .head; can = rw z (rw s at (all .asks)) }
-
-  gives-as : (t : Bool) (v : List ℕ) → ltb (countOf w) c ≡ t → e ≡ cellFor t c (tailOf 1 w) → v ≡ withTail 1 (fronted c e (tailOf 1 w)) w → Recorded w (set v 0 (countFor t (countOf w))) c e
-  unfolding recorded recordCell ghostWords
-  gives-as t v q z p = record { cell = rw q z; words = rw (q, p, z) refl }
-
-  pub asks-spare : getD w 0 0 < c → e ≡ nextOf (tailOf 1 w) (c + 1) → Tail w 1 (CanFront (tailOf 1 w) c e)
+module _ (w : List ℕ) (c : ℕ) (can : CanRecord w c) where
+  pub asks-pick : Counted w c (getD w 0 0)
   unfolding countOf
-  asks-spare h z = asks-as true (lt-ltb (getD w 0 0) c h) z
+  asks-pick = record { room = can .ghosts .room; count = refl }
 
-  pub asks-oldest : c ≤ getD w 0 0 → e ≡ prevOf (tailOf 1 w) c → Tail w 1 (CanFront (tailOf 1 w) c e)
-  unfolding countOf
-  asks-oldest h z = asks-as false (le-ltb (getD w 0 0) c h) z
+  module _ (e : ℕ) (z : e ≡ recordCell c w) where
+    pub asks-front : Tail w 1 (CanFront (tailOf 1 w) c e)
+    unfolding recordCell
+    asks-front =
+        let all : Records w c (liveOf w c) (spareOf w c) (isSpare (spareOf w c)) = records w c (liveOf w c) (spareOf w c) (can .some) (can .ghosts) in
+        record { within = can .ghosts .room .head; can = rw (z, all .spared) (all .asks) }
 
-  pub gives-spare : (v : List ℕ) → getD w 0 0 < c → e ≡ nextOf (tailOf 1 w) (c + 1) → v ≡ withTail 1 (fronted c e (tailOf 1 w)) w → Recorded w (set v 0 (getD w 0 0 + 1)) c e
-  unfolding countOf
-  gives-spare v h z p = gives-as true v (lt-ltb (getD w 0 0) c h) z p
+    module _ (v : List ℕ) (p : v ≡ withTail 1 (fronted c e (tailOf 1 w)) w) where
+      gives-as : (t : Bool) → ltb (countOf w) c ≡ t → Recorded w (set v 0 (countFor t (countOf w))) c e
+      unfolding recorded ghostWords
+      gives-as t q = record { cell = z; words = rw (q, p, z) refl }
 
-  -- the count is as it was
-  pub gives-oldest : (v : List ℕ) → c ≤ getD w 0 0 → e ≡ prevOf (tailOf 1 w) c → v ≡ withTail 1 (fronted c e (tailOf 1 w)) w → Recorded w v c e
-  unfolding countOf
-  gives-oldest v h z p =
-      let n : getD v 0 0 ≡ getD w 0 0 = rw p (word-withTail 1 _ w (can .ghosts .room .head) 0 (omega arith)) in
-      let same : set v 0 (getD w 0 0) ≡ v = rw n at (set-getD v 0 0) in
-      rw same at (gives-as false v (le-ltb (getD w 0 0) c h) z p)
+      pub gives-spare : getD w 0 0 < c → Recorded w (set v 0 (getD w 0 0 + 1)) c e
+      unfolding countOf
+      gives-spare h = gives-as true (lt-ltb (getD w 0 0) c h)
+
+      -- the count is as it was
+      pub gives-oldest : c ≤ getD w 0 0 → Recorded w v c e
+      unfolding countOf
+      gives-oldest h =
+          let n : getD v 0 0 ≡ getD w 0 0 = rw p (word-withTail 1 _ w (can .ghosts .room .head) 0 (omega arith)) in
+          let same : set v 0 (getD w 0 0) ≡ v = rw n at (set-getD v 0 0) in
+          rw same at (gives-as false (le-ltb (getD w 0 0) c h))
 
 -- a cell is forgotten
 module _ (w : List ℕ) (c e : ℕ) (can : CanForget w c e) where

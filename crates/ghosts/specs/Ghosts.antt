@@ -47,6 +47,11 @@ spareOf w c = membersOf (linksOf w) c (c + 1)
 abbrev pub IsGhosts : List ℕ → ℕ → Type 0
 IsGhosts w c = Ghosts w c (liveOf w c) (spareOf w c)
 
+-- the part has the count n
+pub record Counted (w : List ℕ) (c n : ℕ) : Type 0 where
+  pub room : Room w c
+  pub count : n ≡ countOf w
+
 -- what each change asks
 pub record CanRecord (w : List ℕ) (c : ℕ) : Type 0 where
   pub some : 0 < c

@@ -6,7 +6,7 @@
 // keeps the page of each cell. How a change of the words changes the two lists is said by the laws of proofs/Laws.antt.
 ghost use mathlib.Core.Path.{_≡_};
 ghost use Rattle.cells.specs.Cells.{prevOf};
-ghost use Rattle.ghosts.specs.Ghosts.{Room, countOf, linksOf, CanRecord, CanForget, Recorded, forgotten, made, ghostsTest};
+ghost use Rattle.ghosts.specs.Ghosts.{Room, Counted, countOf, linksOf, CanRecord, CanForget, recordCell, Recorded, forgotten, made, ghostsTest};
 
 // How many cells the list has.
 pub fn count(w: &[u64], c: usize) -> usize
@@ -24,23 +24,31 @@ pub fn oldest(w: &[u64], c: usize) -> usize
     tails::prev(w, 1, c)
 }
 
-// A cell for a page that is recorded: a spare one, or the oldest where the list is full. It comes to the front of the list.
+// The cell that is given next, where the list has n cells: the oldest where it is full, else a spare one.
+fn pick(w: &[u64], c: usize, n: u64) -> usize
+    requires { ⌜ Counted (now w) c n ⌝ }
+    ensures { λ r. ⌜ r ≡ recordCell c (now (w .entry)) ⌝ }
+{
+    if c as u64 <= n {
+        return tails::prev(w, 1, c);
+    }
+    let s = c + 1;
+    tails::next(w, 1, s)
+}
+
+// A cell for a page that is recorded. It comes to the front of the list; where it was a spare one the list has one more.
 pub fn record(w: &mut [u64], c: usize) -> usize
     requires { ⌜ CanRecord (now w) c ⌝ }
     ensures { λ r. ⌜ Recorded (now (w .entry)) (now (w .exit)) c r ⌝ }
 {
     let n = w[0];
+    let e = pick(w, c, n);
+    tails::to_front(w, 1, c, e);
     if n < c as u64 {
-        let s = c + 1;
-        let e = tails::next(w, 1, s);
-        tails::to_front(w, 1, c, e);
         w[0] = n + 1;
-        e
-    } else {
-        let e = tails::prev(w, 1, c);
-        tails::to_front(w, 1, c, e);
-        e
+        return e;
     }
+    e
 }
 
 // The cell e of the list goes to the spares.
