@@ -3,8 +3,9 @@ use mathlib.Core.Bool.{Bool}
 use mathlib.Core.List.{List}
 use Prim.Native.Nat.{ℕ}
 use Rattle.rules.specs.State.{withFrame, full}
-use Rattle.rules.specs.Calls.{Old, Done, done, Replaced, replaceIf}
-use Rattle.rules.specs.Arc.{Arc, replace, toFront}
+use Rattle.rules.specs.Calls.{Place, ghost, nowhere, Old, Done, done, Replaced, replaceIf}
+use Rattle.rules.specs.Stages.{ghostHit}
+use Rattle.rules.specs.Arc.{Arc, replace, trimmed, toFront}
 use Rattle.rules.specs.Car.{Car}
 use Rattle.parts.specs.States.{residentAt}
 use Rattle.area.specs.Stored.{stateIn, plainly, arcOf}
@@ -12,6 +13,11 @@ use Rattle.area.specs.Stored.{stateIn, plainly, arcOf}
 -- the state of ARC that an area of capacity c is read as
 abbrev pub arcIn : ℕ → List ℕ → Arc
 arcIn c w = arcOf (stateIn c w)
+
+-- what comes before "replace if full", by where the page is
+abbrev pub ready : Place → ℕ → Arc → Arc
+ready (ghost i) x s = ghostHit i x s
+ready nowhere x s = trimmed s
 
 -- "replace if full"
 abbrev pub made : Bool → Arc → Replaced Arc

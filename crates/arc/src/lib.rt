@@ -4,18 +4,17 @@ ghost use mathlib.Core.Path.{_≡_};
 ghost use Prim.Native.Nat.{_+_, _<_};
 ghost use lib.ListN.{length};
 ghost use Rattle.rules.specs.State.{inAll};
-ghost use Rattle.rules.specs.Calls.{Get, Insert, Remove, Clear, Cleared, Peek, Contains, Len, Capacity, Target, T1Len, T2Len, B1Len, B2Len, Holds, Number, nowhere, ghost as inGhosts};
+ghost use Rattle.rules.specs.Calls.{Get, Insert, Remove, Clear, Cleared, Peek, Contains, Len, Capacity, Target, T1Len, T2Len, B1Len, B2Len, Holds, Number};
 ghost use Rattle.rules.specs.Ghosts.{dropOldest};
-ghost use Rattle.rules.specs.Arc.{trimmed, replace, admitted, insertAt};
+ghost use Rattle.rules.specs.Arc.{trimmed, replace, admitted};
 ghost use Rattle.area.specs.Area.{sideOf};
 ghost use Rattle.area.specs.Stored.{Stored, stateIn};
 ghost use Rattle.store.specs.Store.{IsSlot};
 ghost use Rattle.answers.specs.Answers.{gotIs, seenIs, goneIs, insertedIs};
 ghost use Rattle.calls.specs.Policy.{arcPolicy};
 ghost use Rattle.calls.specs.Inner.{Good, Did, Says};
-ghost use Rattle.common.specs.Common.{HasResident};
-ghost use Rattle.common.specs.Stages.{HasRoom, CanCome, Comes, Hits, entered, Stage, Gives, Makes};
-ghost use Rattle.arc.specs.Insert.{arcIn, made, updated};
+ghost use Rattle.common.specs.Stages.{HasRoom, CanCome, CanDisplace, entered, Stage, Gives, WayIs};
+ghost use Rattle.arc.specs.Insert.{arcIn, ready, made, updated};
 
 // The frame of the page x, which comes to the front of T2.
 pub fn get(a: &mut [u64], c: usize, x: u64) -> answers::Got
@@ -68,12 +67,10 @@ pub fn insert(a: &mut [u64], c: usize, x: u64, f: u32) -> answers::Inserted
     if c == 0 {
         return answers::Inserted::None;
     }
-    let found = store::find(a, c, x);
-    match found {
-        store::Found::Resident(e) => update(a, c, e, f),
-        store::Found::Recent(g) => ghost_hit(a, c, 0, g, x, f),
-        store::Found::Frequent(g) => ghost_hit(a, c, 1, g, x, f),
-        store::Found::Nowhere => miss(a, c, x, f),
+    let way = prepare(a, c, x);
+    match way {
+        common::Way::Stays(e) => update(a, c, e, f),
+        common::Way::Comes(j, in_b2) => enter(a, c, j, x, f, in_b2),
     }
 }
 
@@ -164,23 +161,28 @@ fn update(a: &mut [u64], c: usize, e: usize, f: u32) -> answers::Inserted
     answers::Inserted::Old(old)
 }
 
-// A page of B1 (i = 0) or B2 (i = 1): the target moves, and the page leaves its ghost list; T2.
-fn ghost_hit(a: &mut [u64], c: usize, i: usize, g: usize, x: u64, f: u32) -> answers::Inserted
-    requires { ⌜ Hits c (now a) i g x ⌝ }
-    ensures { λ r. ⌜ Gives arcPolicy (insertAt (inGhosts (sideOf i)) x f (arcIn c (now (a .entry)))) c (now (a .entry)) (now (a .exit)) r ⌝ }
+// How the insert goes on, and what comes before the page's entry. A resident stays. A page of B1 or B2: the target moves, and the page leaves its ghost list; T2. A page that is
+// in no list: the ghost lists are trimmed; T1.
+fn prepare(a: &mut [u64], c: usize, x: u64) -> common::Way
+    requires { ⌜ HasRoom c (now a) ⌝ }
+    ensures { λ r. ⌜ WayIs arcPolicy ready c (now (a .entry)) (now (a .exit)) x r ⌝ }
 {
-    common::adapt(a, c, i, g, x);
-    let in_b2 = i == 1;
-    enter(a, c, 1, x, f, in_b2)
-}
-
-// A page that is in no list: T1.
-fn miss(a: &mut [u64], c: usize, x: u64, f: u32) -> answers::Inserted
-    requires { ⌜ Comes c (now a) nowhere x ⌝ }
-    ensures { λ r. ⌜ Gives arcPolicy (insertAt nowhere x f (arcIn c (now (a .entry)))) c (now (a .entry)) (now (a .exit)) r ⌝ }
-{
-    trim(a, c);
-    enter(a, c, 0, x, f, false)
+    let found = store::find(a, c, x);
+    match found {
+        store::Found::Resident(e) => common::Way::Stays(e),
+        store::Found::Recent(g) => {
+            common::adapt(a, c, 0, g, x);
+            common::Way::Comes(1, false)
+        }
+        store::Found::Frequent(g) => {
+            common::adapt(a, c, 1, g, x);
+            common::Way::Comes(1, true)
+        }
+        store::Found::Nowhere => {
+            trim(a, c);
+            common::Way::Comes(0, false)
+        }
+    }
 }
 
 // The ghost lists before a plain miss.
@@ -238,31 +240,22 @@ fn enter(a: &mut [u64], c: usize, j: usize, x: u64, f: u32, in_b2: bool) -> answ
     requires { ⌜ CanCome c (now a) j x ⌝ }
     ensures { λ r. ⌜ Gives arcPolicy (entered (admitted (sideOf j) x f) (made «in_b2» (arcIn c (now (a .entry))))) c (now (a .entry)) (now (a .exit)) r ⌝ }
 {
-    let r = make_room(a, c, in_b2);
-    store::enter_front(a, c, j, x, f, 0);
-    r
-}
-
-// Replace if full.
-fn make_room(a: &mut [u64], c: usize, in_b2: bool) -> answers::Inserted
-    requires { ⌜ HasRoom c (now a) ⌝ }
-    ensures { λ r. ⌜ Makes arcPolicy (made «in_b2» (arcIn c (now (a .entry)))) c (now (a .entry)) (now (a .exit)) r ⌝ }
-{
     let n = common::residents(a, c);
     if n < c {
+        store::enter_front(a, c, j, x, f, 0);
         return answers::Inserted::New;
     }
-    replace(a, c, in_b2)
+    replace(a, c, j, x, f, in_b2)
 }
 
-// The oldest of T1 or T2 leaves, and is recorded in the ghost list of its side. One step.
-fn replace(a: &mut [u64], c: usize, in_b2: bool) -> answers::Inserted
-    requires { ⌜ HasResident c (now a) ⌝ }
-    ensures { λ r. ⌜ Makes arcPolicy (replace «in_b2» (arcIn c (now (a .entry)))) c (now (a .entry)) (now (a .exit)) r ⌝ }
+// The oldest of T1 or T2 leaves, and is recorded in the ghost list of its side: one step. The page takes its slot.
+fn replace(a: &mut [u64], c: usize, j: usize, x: u64, f: u32, in_b2: bool) -> answers::Inserted
+    requires { ⌜ CanDisplace c (now a) j x ⌝ }
+    ensures { λ r. ⌜ Gives arcPolicy (entered (admitted (sideOf j) x f) (replace «in_b2» (arcIn c (now (a .entry))))) c (now (a .entry)) (now (a .exit)) r ⌝ }
 {
     let i = common::turn(a, c, in_b2);
     let e = store::last(a, c, i);
-    let out = store::evict(a, c, i, e);
+    let out = store::exchange_front(a, c, i, e, j, x, f, 0);
     let place = answers::recorded_in(i);
     answers::Inserted::Out {
         page: out.page,

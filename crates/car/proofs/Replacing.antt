@@ -1,37 +1,39 @@
--- The replacement. In order: a step; the steps of a loop. Assumes nothing.
+-- The replacement. In order: a step; the steps of a loop; the victim is put out. Assumes nothing.
 use mathlib.Core.Path.{_≡_, refl, sym, subst, ap, _∙_}
 use mathlib.Core.Bool.{Bool, true, false}
 use mathlib.Core.List.{List, [], _∷_}
 use Prim.Native.Nat.{ℕ, suc, _+_, _<_, _≤_}
 use native.Mathlib.Omega.{arith}
+use lib.Dec.{eqb}
 use lib.ListN.{length, drop}
 use borrow.Author.Needs.{needs}
 use Rattle.rules.specs.Lists.{one}
 use Rattle.rules.specs.State.{Side, second, list, setList, residents, leaves, Lists}
-use Rattle.rules.specs.Calls.{Victim, out, ghost, New, Replaced, steps}
+use Rattle.rules.specs.Calls.{ghost, Replaced, steps}
 use Rattle.rules.specs.Ghosts.{recordIn}
-use Rattle.rules.specs.Car.{Resident, Clocked, Car, car, withBit, marks, referenced, atEnd, at, handOf, hand, passed, evicted, stepThen, replace}
+use Rattle.rules.specs.Car.{Resident, Clocked, Car, car, withBit, marks, referenced, atEnd, at, handOf, hand, passed, evicted, stepThen, replace, admitted}
 use Rattle.rules.proofs.Sweep.{pass-law, replace-swept}
 use Rattle.rules.proofs.Trail.{replace-passes, replace-evicts}
 use Rattle.parts.specs.Parts.{stateOf}
-use Rattle.parts.specs.States.{residentAt, endedAt, evictedAt}
+use Rattle.parts.specs.States.{residentAt, endedAt, evictedAt, enteredAtEnd, newResident}
 use Rattle.parts.proofs.Reading.{resident-at, slot-is, state-sound}
 use Rattle.parts.proofs.Ends.{leaves-first}
 use Rattle.area.specs.Area.{partsOf, sideOf}
 use Rattle.area.specs.Stored.{Stored, stateIn, Left}
-use Rattle.store.specs.Store.{IsSlot, FirstIs, Evicts}
+use Rattle.store.specs.Store.{IsSlot, FirstIs, Evicts, CanExchange}
 use Rattle.store.specs.declared.Out.{Out as StoreOut}
 use Rattle.answers.specs.Answers.{placeIs, placeOfList}
 use Rattle.answers.specs.declared.Place as answers
 use Rattle.answers.specs.declared.Inserted.the-variants as Inserted
 use Rattle.calls.specs.Policy.{carPolicy}
 use Rattle.common.specs.Common.{HasResident, TurnIs}
-use Rattle.common.specs.Stages.{Makes}
+use Rattle.common.specs.Stages.{CanDisplace, entered, Gives}
 use Rattle.common.proofs.Turning.{turn-has}
-use Rattle.common.proofs.Entering.{makes-room}
-use Rattle.car.specs.Replace.{StepIs}
+use Rattle.common.proofs.Entering.{can-displaces, exchange-can, enter-gives}
+use Rattle.car.specs.Replace.{StepIs, Chooses}
 use Rattle.car.specs.declared.Stepped as declaredStep
-use Rattle.car.specs.declared.Stepped.the-variants.{Passed, Out}
+use Rattle.car.specs.declared.Stepped.the-variants.{Passed, Meets}
+use Rattle.car.specs.declared.Victim.{Victim}
 
 pub turn-stored : (c : ℕ) (w : List ℕ) → HasResident c w → Stored c w
 turn-stored c w h = h .stored
@@ -81,15 +83,14 @@ module _ (c : ℕ) (w : List ℕ) (h : HasResident c w) (hit : Bool) (i : ℕ) (
             marks = p .one-mark ∙ ap (λ (x : Car). referenced (x .lists) + 1) (sym st);
           }
 
-      pub step-ends : b ≡ false → (o : StoreOut) → Evicts c w v e o (evictedAt (sideOf i) e (stateIn c w)) → (k : answers.Place) → placeIs k ≡ placeOfList i → StepIs c w v hit (Out (o .page) (o .frame) k)
-      step-ends z o d k q =
-          let st : stateIn c v ≡ evicted (sideOf i) (residentAt e (stateIn c w)) rest (stateIn c w) .state = d .left .reads ∙ evicted-is in
-          let l = d .left in
-          record {
-            side = sideOf i;
-            left = record { stored = l .stored; reads = refl; kind = l .kind; size = l .size; rest = l .rest };
-            is = replace-evicts hit (stateIn c w) (sideOf i) (residentAt e (stateIn c w)) rest hand-is (sym is ∙ z) ∙ (rw (q, d .page, d .frame, st) refl);
-          }
+    -- it is the victim
+    pub step-meets : (b : Bool) → b ≡ residentAt e (stateIn c w) .more .bit → b ≡ false → StepIs c w w hit (Meets i e)
+    step-meets b is z =
+        record {
+          same = refl;
+          slot = f .slot;
+          is = replace-evicts hit (stateIn c w) (sideOf i) (residentAt e (stateIn c w)) rest hand-is (sym is ∙ z) ∙ (rw evicted-is refl);
+        }
 
 -- ---- the steps of a loop: after n - 1 of them the area is w, and the replacement of w₀ is these and then the replacement of w
 pub record Sweeps (c : ℕ) (w₀ w : List ℕ) (hit : Bool) (n : ℕ) : Type 0 where
@@ -151,30 +152,48 @@ module _ (c : ℕ) (w₀ w : List ℕ) (hit : Bool) (n : ℕ) (h : Sweeps c w₀
           bound = omega (arith, h .bound, p .marks);
         }
 
-    pub sweep-ends : HasResident c w₀ → (p f : ℕ) (k : answers.Place) → r ≡ Out p f k → Makes carPolicy (replace hit (stateIn c w₀)) c w₀ v (Inserted.Out p f k n)
-    sweep-ends o p f k q =
-        let e = step-as (Out p f k) q in
-        let st : stateIn c v ≡ replace hit (stateIn c w₀) .state = sym (h .state ∙ ap (λ (x : Replaced Car). x .state) (e .is)) in
-        let victim : out p f (placeIs k) ≡ replace hit (stateIn c w₀) .victim = sym (h .victim ∙ ap (λ (x : Replaced Car). x .victim) (e .is)) in
-        let count : n ≡ steps (replace hit (stateIn c w₀)) = omega (arith, h .steps, ap (λ (x : Replaced Car). length (x .trail)) (e .is)) in
-        let s = replace-swept hit (stateIn c w₀) (o .some) in
-        makes-room carPolicy (replace hit (stateIn c w₀)) c w₀ v (Inserted.Out p f k n) (o .stored)
-        (record { stored = e .left .stored; reads = st; kind = e .left .kind ∙ h .left .kind; size = e .left .size ∙ h .left .size; rest = e .left .rest ∙ h .left .rest })
-        (ap (λ (x : Victim). New x n) victim ∙ ap (λ (m : ℕ). New (replace hit (stateIn c w₀) .victim) m) count)
-        (s .less ∙ ap (λ (t : Car). residents (t .lists) + 1) (sym st))
-        (λ y. rw st (s .fewer y))
+    pub sweep-ends : (i e : ℕ) → r ≡ Meets i e → Chooses c w₀ v hit (record { list = i; slot = e; steps = n })
+    sweep-ends i e q =
+        let m = step-as (Meets i e) q in
+        rw (m .same)
+        (record {
+          left = h .left;
+          slot = m .slot;
+          victim = h .victim ∙ ap (λ (x : Replaced Car). x .victim) (m .is);
+          state = h .state ∙ ap (λ (x : Replaced Car). x .state) (m .is);
+          steps = omega (arith, h .steps, ap (λ (x : Replaced Car). length (x .trail)) (m .is));
+        })
+
+-- ---- the victim is put out
+module _ (c : ℕ) (w : List ℕ) (hit : Bool) (j x : ℕ) (g : CanDisplace c w j x) (v : List ℕ) (r : Victim) (h : Chooses c w v hit r) where
+  pub puts-can : CanExchange c v (r .list) (r .slot) j x 0
+  puts-can =
+      exchange-can c w v (r .list) (r .slot) j x (h .slot) (g .comes)
+      (rw (sym (h .state)) (replace-swept hit (stateIn c w) (g .full .some) .fewer x))
+
+  pub puts : (f : ℕ) (u : List ℕ) (o : StoreOut) → Evicts c v u (r .slot) o (enteredAtEnd (sideOf j) x f (eqb 0 1) (evictedAt (sideOf (r .list)) (r .slot) (stateIn c v))) → (k : answers.Place) → placeIs k ≡ placeOfList (r .list) → Gives carPolicy (entered (admitted (sideOf j) x f) (replace hit (stateIn c w))) c w u (Inserted.Out (o .page) (o .frame) k (r .steps))
+  unfolding admitted enteredAtEnd newResident
+  puts f u o d k q =
+      let s = evictedAt (sideOf (r .list)) (r .slot) (stateIn c v) in
+      enter-gives carPolicy (replace hit (stateIn c w)) (admitted (sideOf j) x f) c w u (Inserted.Out (o .page) (o .frame) k (r .steps)) (enteredAtEnd (sideOf j) x f false s)
+      (record { stored = d .left .stored; reads = d .left .reads; kind = d .left .kind ∙ h .left .kind; size = d .left .size ∙ h .left .size; rest = d .left .rest ∙ h .left .rest })
+      (ap (admitted (sideOf j) x f) (sym (h .state)))
+      (rw (q, d .out .page, d .out .frame, h .victim, h .steps) refl)
 
 pub ruleset replaceLaws = (
+  can-displaces,
   turn-stored,
   turn-has,
   step-slot,
   step-passes,
-  step-ends,
+  step-meets,
   sweep-starts,
   sweep-has,
   sweep-small,
   sweep-falls,
   sweep-again,
   sweep-ends,
+  puts-can,
+  puts,
   needs,
 )

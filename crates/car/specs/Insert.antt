@@ -2,9 +2,15 @@
 use mathlib.Core.Bool.{Bool, true}
 use Prim.Native.Nat.{ℕ}
 use Rattle.rules.specs.State.{withFrame, full}
-use Rattle.rules.specs.Calls.{Old, Done, done, Replaced, replaceIf}
-use Rattle.rules.specs.Car.{Car, withBit, touched, replace}
+use Rattle.rules.specs.Calls.{Place, ghost, nowhere, Old, Done, done, Replaced, replaceIf}
+use Rattle.rules.specs.Stages.{ghostHit}
+use Rattle.rules.specs.Car.{Car, car, withBit, touched, replace}
 use Rattle.parts.specs.States.{residentAt}
+
+-- what comes before "replace if full", by where the page is
+abbrev pub ready : Place → ℕ → Car → Car
+ready (ghost i) x s = car (ghostHit i x (s .lists)) (s .free)
+ready nowhere x s = s
 
 -- "replace if full"
 abbrev pub made : Bool → Car → Replaced Car

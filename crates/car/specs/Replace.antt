@@ -1,16 +1,23 @@
--- What a step of a replacement does. Assumes nothing.
+-- What a step of a replacement does, and all of them. Assumes nothing.
 use mathlib.Core.Path.{_≡_}
 use mathlib.Core.Bool.{Bool}
 use mathlib.Core.List.{List, [], _∷_}
 use Prim.Native.Nat.{ℕ, _+_}
 use Rattle.rules.specs.State.{Side, residents}
-use Rattle.rules.specs.Calls.{out, replaced}
-use Rattle.rules.specs.Car.{referenced, stepThen, replace}
+use Rattle.rules.specs.Calls as Calls
+use Rattle.rules.specs.Calls.{out, ghost, replaced, steps}
+use Rattle.rules.specs.Car.{Car, referenced, stepThen, replace}
+use Rattle.parts.specs.States.{residentAt, evictedAt}
+use Rattle.area.specs.Area.{sideOf}
 use Rattle.area.specs.Stored.{stateIn, Left}
-use Rattle.answers.specs.Answers.{placeIs}
-use Rattle.answers.specs.declared.Place as answers
+use Rattle.store.specs.Store.{HasSlot}
 use Rattle.car.specs.declared.Stepped as declaredStep
-use Rattle.car.specs.declared.Stepped.the-variants.{Passed, Out}
+use Rattle.car.specs.declared.Stepped.the-variants.{Passed, Meets}
+use Rattle.car.specs.declared.Victim.{Victim}
+
+-- the resident of slot e of list i as a victim
+abbrev pub outOf : ℕ → ℕ → Car → Calls.Victim
+outOf i e s = out (residentAt e s .page) (residentAt e s .frame) (ghost (sideOf i))
 
 -- a step that puts nobody out: a replacement is that step, and then the replacement of what it leaves; one mark is cleared
 pub record Passes (c : ℕ) (w v : List ℕ) (hit : Bool) : Type 0 where
@@ -20,12 +27,20 @@ pub record Passes (c : ℕ) (w v : List ℕ) (hit : Bool) : Type 0 where
   pub some : residents (stateIn c v .lists) ≡ residents (stateIn c w .lists)
   pub marks : referenced (stateIn c w .lists) ≡ referenced (stateIn c v .lists) + 1
 
--- a step that puts a page out: it is the replacement
-pub record Ends (c : ℕ) (w v : List ℕ) (hit : Bool) (p f : ℕ) (k : answers.Place) : Type 0 where
-  pub side : Side
-  pub left : Left c w v (stateIn c v)
-  pub is : replace hit (stateIn c w) ≡ replaced (out p f (placeIs k)) (side ∷ []) (stateIn c v)
+-- a step that meets the victim, in slot e of list i: the replacement is to put it out. Nothing is changed
+pub record Meeting (c : ℕ) (w v : List ℕ) (hit : Bool) (i e : ℕ) : Type 0 where
+  pub same : v ≡ w
+  pub slot : HasSlot c w i e
+  pub is : replace hit (stateIn c w) ≡ replaced (outOf i e (stateIn c w)) (sideOf i ∷ []) (evictedAt (sideOf i) e (stateIn c w))
 
 abbrev pub StepIs : ℕ → List ℕ → List ℕ → Bool → declaredStep.Stepped → Type 0
 StepIs c w v hit Passed = Passes c w v hit
-StepIs c w v hit (Out p f k) = Ends c w v hit p f k
+StepIs c w v hit (Meets i e) = Meeting c w v hit i e
+
+-- a whole replacement but for the putting out: v is the area after its steps, and r the victim
+pub record Chooses (c : ℕ) (w v : List ℕ) (hit : Bool) (r : Victim) : Type 0 where
+  pub left : Left c w v (stateIn c v)
+  pub slot : HasSlot c v (r .list) (r .slot)
+  pub victim : replace hit (stateIn c w) .victim ≡ outOf (r .list) (r .slot) (stateIn c v)
+  pub state : replace hit (stateIn c w) .state ≡ evictedAt (sideOf (r .list)) (r .slot) (stateIn c v)
+  pub steps : steps (replace hit (stateIn c w)) ≡ r .steps

@@ -1,7 +1,7 @@
 // CAR (01, "CAR"; src/policy/car.rs): the inner calls. Each asks that the area holds a well-formed state of CAR, of capacity c, and
 // leaves one. Answer and state are those of the rules, over the operations of `store`.
-ghost use Rattle.rules.specs.Calls.{Get, Insert, Remove, Clear, Peek, Contains, Len, Capacity, Target, T1Len, T2Len, B1Len, B2Len, Holds, Number, Cleared, nowhere, ghost as inGhosts};
-ghost use Rattle.rules.specs.Car.{replace, admitted, insertAt};
+ghost use Rattle.rules.specs.Calls.{Get, Insert, Remove, Clear, Peek, Contains, Len, Capacity, Target, T1Len, T2Len, B1Len, B2Len, Holds, Number, Cleared};
+ghost use Rattle.rules.specs.Car.{replace, admitted};
 ghost use Rattle.area.specs.Area.{sideOf};
 ghost use Rattle.area.specs.Stored.{stateIn};
 ghost use Rattle.store.specs.Store.{IsSlot};
@@ -9,9 +9,9 @@ ghost use Rattle.answers.specs.Answers.{gotIs, seenIs, goneIs, insertedIs};
 ghost use Rattle.calls.specs.Policy.{carPolicy};
 ghost use Rattle.calls.specs.Inner.{Good, Did, Says};
 ghost use Rattle.common.specs.Common.{HasResident};
-ghost use Rattle.common.specs.Stages.{HasRoom, CanCome, Comes, Hits, entered, Gives, Makes};
-ghost use Rattle.car.specs.Insert.{made, updated};
-ghost use Rattle.car.specs.Replace.{StepIs};
+ghost use Rattle.common.specs.Stages.{HasRoom, CanCome, CanDisplace, entered, Gives, WayIs};
+ghost use Rattle.car.specs.Insert.{ready, made, updated};
+ghost use Rattle.car.specs.Replace.{StepIs, Chooses};
 
 // The frame of page x. A hit sets the bit; nothing moves.
 pub fn get(a: &mut [u64], c: usize, x: u64) -> answers::Got
@@ -64,12 +64,10 @@ pub fn insert(a: &mut [u64], c: usize, x: u64, f: u32) -> answers::Inserted
     if c == 0 {
         return answers::Inserted::None;
     }
-    let found = store::find(a, c, x);
-    match found {
-        store::Found::Resident(e) => update(a, c, e, f),
-        store::Found::Recent(g) => ghost_hit(a, c, 0, g, x, f),
-        store::Found::Frequent(g) => ghost_hit(a, c, 1, g, x, f),
-        store::Found::Nowhere => miss(a, c, x, f),
+    let way = prepare(a, c, x);
+    match way {
+        common::Way::Stays(e) => update(a, c, e, f),
+        common::Way::Comes(j, ghost_frequent_hit) => enter(a, c, j, x, f, ghost_frequent_hit),
     }
 }
 
@@ -160,22 +158,25 @@ fn update(a: &mut [u64], c: usize, e: usize, f: u32) -> answers::Inserted
     answers::Inserted::Old(old)
 }
 
-// A page of B1 (i = 0) or B2 (i = 1): the target moves, and the page leaves its ghost list; frequent clock.
-fn ghost_hit(a: &mut [u64], c: usize, i: usize, g: usize, x: u64, f: u32) -> answers::Inserted
-    requires { ⌜ Hits c (now a) i g x ⌝ }
-    ensures { λ r. ⌜ Gives carPolicy (insertAt (inGhosts (sideOf i)) x f (stateIn c (now (a .entry)))) c (now (a .entry)) (now (a .exit)) r ⌝ }
+// How the insert goes on, and what comes before the page's entry. A resident stays. A page of B1 or B2: the target moves, and the page leaves its ghost list; frequent clock. A
+// page that is in no list: recent clock.
+fn prepare(a: &mut [u64], c: usize, x: u64) -> common::Way
+    requires { ⌜ HasRoom c (now a) ⌝ }
+    ensures { λ r. ⌜ WayIs carPolicy ready c (now (a .entry)) (now (a .exit)) x r ⌝ }
 {
-    common::adapt(a, c, i, g, x);
-    let hit = i == 1;
-    enter(a, c, 1, x, f, hit)
-}
-
-// A page that is in no list: recent clock.
-fn miss(a: &mut [u64], c: usize, x: u64, f: u32) -> answers::Inserted
-    requires { ⌜ Comes c (now a) nowhere x ⌝ }
-    ensures { λ r. ⌜ Gives carPolicy (insertAt nowhere x f (stateIn c (now (a .entry)))) c (now (a .entry)) (now (a .exit)) r ⌝ }
-{
-    enter(a, c, 0, x, f, false)
+    let found = store::find(a, c, x);
+    match found {
+        store::Found::Resident(e) => common::Way::Stays(e),
+        store::Found::Recent(g) => {
+            common::adapt(a, c, 0, g, x);
+            common::Way::Comes(1, false)
+        }
+        store::Found::Frequent(g) => {
+            common::adapt(a, c, 1, g, x);
+            common::Way::Comes(1, true)
+        }
+        store::Found::Nowhere => common::Way::Comes(0, false),
+    }
 }
 
 // A page that no list has: replace if full; it goes to the end of the recent (j = 0) or the frequent clock (j = 1), its bit clear.
@@ -190,27 +191,48 @@ fn enter(
     requires { ⌜ CanCome c (now a) j x ⌝ }
     ensures { λ r. ⌜ Gives carPolicy (entered (admitted (sideOf j) x f) (made «ghost_frequent_hit» (stateIn c (now (a .entry))))) c (now (a .entry)) (now (a .exit)) r ⌝ }
 {
-    let r = make_room(a, c, ghost_frequent_hit);
-    store::enter_end(a, c, j, x, f, 0);
-    r
-}
-
-// Replace if full.
-fn make_room(a: &mut [u64], c: usize, ghost_frequent_hit: bool) -> answers::Inserted
-    requires { ⌜ HasRoom c (now a) ⌝ }
-    ensures { λ r. ⌜ Makes carPolicy (made «ghost_frequent_hit» (stateIn c (now (a .entry)))) c (now (a .entry)) (now (a .exit)) r ⌝ }
-{
     let n = common::residents(a, c);
     if n < c {
+        store::enter_end(a, c, j, x, f, 0);
         return answers::Inserted::New;
     }
-    replace(a, c, ghost_frequent_hit)
+    replace(a, c, j, x, f, ghost_frequent_hit)
 }
 
-// Steps until one puts a page out. Each step before clears a bit, and so there is an end.
-fn replace(a: &mut [u64], c: usize, ghost_frequent_hit: bool) -> answers::Inserted
+// The page at the hand, once it is not referenced, leaves, and is recorded in the ghost list of its side. The new page takes its slot.
+fn replace(
+    a: &mut [u64],
+    c: usize,
+    j: usize,
+    x: u64,
+    f: u32,
+    ghost_frequent_hit: bool,
+) -> answers::Inserted
+    requires { ⌜ CanDisplace c (now a) j x ⌝ }
+    ensures { λ r. ⌜ Gives carPolicy (entered (admitted (sideOf j) x f) (replace «ghost_frequent_hit» (stateIn c (now (a .entry))))) c (now (a .entry)) (now (a .exit)) r ⌝ }
+{
+    let v = sweep(a, c, ghost_frequent_hit);
+    let out = store::exchange_end(a, c, v.list, v.slot, j, x, f, 0);
+    let place = answers::recorded_in(v.list);
+    answers::Inserted::Out {
+        page: out.page,
+        frame: out.frame,
+        place,
+        steps: v.steps,
+    }
+}
+
+// The victim of a replacement: its clock (0 recent, 1 frequent), its slot, and the steps of the replacement, the one that puts it out among them.
+struct Victim {
+    list: usize,
+    slot: usize,
+    steps: u64,
+}
+
+// Steps until one meets the victim. Each step before clears a bit, and so there is an end.
+fn sweep(a: &mut [u64], c: usize, ghost_frequent_hit: bool) -> Victim
     requires { ⌜ HasResident c (now a) ⌝ }
-    ensures { λ r. ⌜ Makes carPolicy (replace «ghost_frequent_hit» (stateIn c (now (a .entry)))) c (now (a .entry)) (now (a .exit)) r ⌝ }
+    ensures { λ r. ⌜ Chooses c (now (a .entry)) (now (a .exit)) «ghost_frequent_hit» r ⌝ }
 {
     let mut steps: u64 = 1;
     loop {
@@ -219,26 +241,20 @@ fn replace(a: &mut [u64], c: usize, ghost_frequent_hit: bool) -> answers::Insert
             Stepped::Passed => {
                 steps += 1;
             }
-            Stepped::Out(page, frame, place) => {
-                return answers::Inserted::Out {
-                    page,
-                    frame,
-                    place,
-                    steps,
-                };
+            Stepped::Meets(list, slot) => {
+                return Victim { list, slot, steps };
             }
         }
     }
 }
 
-// What one step of a replacement does: the page at the hand is passed over, or it is put out; then its page and frame, and where it is
-// recorded.
+// What one step of a replacement does: the page at the hand is passed over, or it is the victim; then its clock and its slot.
 enum Stepped {
     Passed,
-    Out(u64, u32, answers::Place),
+    Meets(usize, usize),
 }
 
-// One step: a referenced page loses its bit and goes to the end of the frequent clock; another is put out.
+// One step: a referenced page loses its bit and goes to the end of the frequent clock; another is the victim.
 fn step(a: &mut [u64], c: usize, ghost_frequent_hit: bool) -> Stepped
     requires { ⌜ HasResident c (now a) ⌝ }
     ensures { λ r. ⌜ StepIs c (now (a .entry)) (now (a .exit)) «ghost_frequent_hit» r ⌝ }
@@ -249,7 +265,5 @@ fn step(a: &mut [u64], c: usize, ghost_frequent_hit: bool) -> Stepped
         store::to_end(a, c, e);
         return Stepped::Passed;
     }
-    let out = store::evict(a, c, i, e);
-    let place = answers::recorded_in(i);
-    Stepped::Out(out.page, out.frame, place)
+    Stepped::Meets(i, e)
 }

@@ -1,18 +1,23 @@
 -- What the stages of an insert ask and leave, over the policy. Assumes nothing.
 use mathlib.Core.Path.{_≡_}
+use mathlib.Core.Bool.{Bool, false}
 use mathlib.Core.Option.{none}
 use mathlib.Core.List.{List}
-use Prim.Native.Nat.{ℕ, _<_, _≤_}
+use Prim.Native.Nat.{ℕ, _<_}
 use lib.ListN.{length, drop}
 use Rattle.rules.specs.State.{resident, seen}
-use Rattle.rules.specs.Calls.{Place, New, ghost, Replaced, steps, Done, done}
-use Rattle.rules.specs.Stages.{placeOf}
+use Rattle.rules.specs.Calls.{Place, New, ghost, nowhere, Replaced, steps, Done, done}
+use Rattle.rules.specs.Stages.{placeOf, isB2, goesTo}
 use Rattle.area.specs.Area.{kindOf, endAt, sideOf}
 use Rattle.area.specs.Stored.{Stored, stateIn}
-use Rattle.store.specs.Store.{HasGhost}
+use Rattle.store.specs.Store.{HasGhost, FoundIs}
+use Rattle.store.specs.declared.Found.the-variants.{Resident}
 use Rattle.answers.specs.Answers.{insertedIs}
 use Rattle.answers.specs.declared.Inserted.{Inserted}
 use Rattle.calls.specs.Policy.{Policy, stateOf}
+use Rattle.common.specs.Common.{HasResident}
+use Rattle.common.specs.declared.Way as way
+use Rattle.common.specs.declared.Way.the-variants as ways
 
 -- ---- what is asked
 -- an area of a cache that can hold a page
@@ -38,6 +43,16 @@ pub record Hits (c : ℕ) (w : List ℕ) (i g x : ℕ) : Type 0 where
   pub cell : HasGhost c w (sideOf i) g x
   pub comes : Comes c w (ghost (sideOf i)) x
 
+-- a page takes the slot of one that is put out
+pub record CanDisplace (c : ℕ) (w : List ℕ) (j x : ℕ) : Type 0 where
+  pub comes : CanCome c w j x
+  pub full : HasResident c w
+
+-- whether a page's place is B2
+abbrev pub ofB2 : Place → Bool
+ofB2 (ghost i) = isB2 i
+ofB2 nowhere = false
+
 -- the entry of a page after a replacement, by what puts the page in
 abbrev pub entered : {S : Type 0} → (S → S) → Replaced S → Done S
 entered put m = done (New (m .victim) (steps m)) (put (m .state))
@@ -56,9 +71,16 @@ module _ (P : Policy) where
     pub left : Stage c w v (d .state)
     pub answer : insertedIs r ≡ d .answer
 
-  -- the state and the victim of the replacement m; a slot is free then, and no page has come
-  pub record Makes (m : Replaced (P .State)) (c : ℕ) (w v : List ℕ) (r : Inserted) : Type 0 where
-    pub left : Stage c w v (m .state)
-    pub answer : insertedIs r ≡ New (m .victim) (steps m)
-    pub room : 0 < length (stateIn c v .free)
-    pub fewer : (y : ℕ) → seen y (stateIn c v .lists) ≤ seen y (stateIn c w .lists)
+  -- ---- how an insert goes on: the page comes from its place to list j, after a hit in B2 or not; `ready` is what comes before
+  module _ (ready : Place → ℕ → P .State → P .State) where
+    pub record Ready (c : ℕ) (w v : List ℕ) (x j : ℕ) (hit : Bool) : Type 0 where
+      pub place : Place
+      pub was : Comes c w place x
+      pub list : sideOf j ≡ goesTo place
+      pub frequent : hit ≡ ofB2 place
+      pub left : Stage c w v (ready place x (stateOf P c w))
+      pub can : CanCome c v j x
+
+    abbrev pub WayIs : ℕ → List ℕ → List ℕ → ℕ → way.Way → Type 0
+    WayIs c w v x (ways.Stays e) = (v ≡ w) × FoundIs c w x (Resident e)
+    WayIs c w v x (ways.Comes j hit) = Ready c w v x j hit

@@ -15,6 +15,13 @@ pub enum Slot {
     Nobody,
 }
 
+// How an insert goes on once the page is found: the resident of a slot is updated; or the page, which no list has any more, comes to T1 (0) or T2 (1), after a hit in
+// B2 or not.
+pub enum Way {
+    Stays(usize),
+    Comes(usize, bool),
+}
+
 // The slot of the resident of page x.
 pub fn slot_of(a: &[u64], c: usize, x: u64) -> Slot
     requires { ⌜ Stored c (now a) ⌝ }

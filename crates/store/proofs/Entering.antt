@@ -32,7 +32,8 @@ module _ (c : ℕ) (w : List ℕ) (j x b : ℕ) (t : CanEnter c w x b) (hj : j <
   enter-adds = record { small = t .stored .holds .small; size = t .stored .size; can = may-add c (partsOf c w) (t .stored .holds) some j hj }
 
   nowhere : look (partsOf c w .lookup) (placesOf c) (bucketsOf c) x ≡ none
-  nowhere = held-nowhere c w (t .stored) x (t .fresh) (t .unrecorded)
+  unfolding stateIn
+  nowhere = held-nowhere c (partsOf c w) (t .stored .holds) x (t .fresh) (t .unrecorded)
 
   -- the residents are r, the slot e, and place is what `find` gave before
   module _ (place : ℕ) (q : place ≡ findOf (lookupIn c w) (placesOf c) (bucketsOf c) x) (v : List ℕ) (e : ℕ) (r : List ℕ) (d : Answered c w v e (topOf c (residentsIn c w)) (setResidents r (partsOf c w))) where

@@ -1,4 +1,4 @@
--- Where a page is. In order: what the call asks; the lookup's answer by its number; what each answer says of the state; a page that the state has nowhere, the lookup has nowhere.
+-- Where a page is. In order: a page that the state has nowhere, the lookup has nowhere; what the call asks; the lookup's answer by its number; what each answer says of the state.
 -- Assumes nothing.
 use mathlib.Core.Path.{_≡_, refl, sym, ap, _∙_}
 use mathlib.Core.Bool.{Bool, true, false}
@@ -16,7 +16,7 @@ use Rattle.lookup.specs.Buckets.{bucketsOf, placesOf}
 use Rattle.lookup.specs.Lookup.{Place, at, look, placeOr, bucketIn, CanFind, none as noPlace}
 use Rattle.lookup.proofs.Table.{held-below}
 use Rattle.lookup.proofs.Look.{look-held}
-use Rattle.parts.specs.Parts.{ghostPlace, residentOf, stateOf}
+use Rattle.parts.specs.Parts.{Parts, Holds, ghostPlace, residentOf, stateOf}
 use Rattle.parts.proofs.Reading.{resident-at}
 use Rattle.parts.proofs.Finding.{may-find, found-slot, found-resident, found-cell, ghost-no-resident, found-ghost, absent-no-resident, found-nowhere}
 use Rattle.area.specs.Area.{lookupIn, partsOf, Fit}
@@ -41,14 +41,34 @@ not-nowhere : (o : RulesPlace) (i : Side) → o ≡ nowhere → o ≡ ghost i �
 unfolding lists
 not-nowhere o i p q = let z : _≡_ {A = ℕ} 0 1 = ap lists (sym p ∙ q) in omega arith
 
+-- ---- a page that the state has nowhere, the lookup has nowhere
+module _ (c : ℕ) (p : Parts) (h : Holds c p) (x : ℕ) where
+  -- an answer is a place of the lookup
+  place-low : (y : ℕ) → look (p .lookup) (placesOf c) (bucketsOf c) x ≡ at y → y < 3 * c
+  place-low y e = held-below (p .lookup) (placesOf c) (bucketsOf c) (bucketIn (p .lookup) (placesOf c)) (h .table) y (look-held (p .lookup) (placesOf c) (bucketsOf c) (h .table) x y e)
+
+  pub held-nowhere : resident x (stateOf c p .lists) ≡ none → placeOf x (stateOf c p .lists) ≡ nowhere → look (p .lookup) (placesOf c) (bucketsOf c) x ≡ noPlace
+  held-nowhere a b = go (look (p .lookup) (placesOf c) (bucketsOf c) x) refl
+    where
+      cell : (y : ℕ) → look (p .lookup) (placesOf c) (bucketsOf c) x ≡ at y → (i : Side) (g : ℕ) → g < c → y ≡ ghostPlace i c g → ⊥
+      cell y e i g l is = not-nowhere (placeOf x (stateOf c p .lists)) i b (found-ghost c p h x y e i g l is)
+
+      past : (y : ℕ) → look (p .lookup) (placesOf c) (bucketsOf c) x ≡ at y → c ≤ y → (t : Bool) → ltb y (2 * c) ≡ t → ⊥
+      past y e l true k = let h : y < 2 * c = ltb-true y (2 * c) k in cell y e first (y - c) (omega arith) (omega arith)
+      past y e l false k = let h : 2 * c ≤ y = ltb-false y (2 * c) k in let m : y < 3 * c = place-low y e in cell y e second (y - 2 * c) (omega arith) (omega arith)
+
+      off : (y : ℕ) → look (p .lookup) (placesOf c) (bucketsOf c) x ≡ at y → (t : Bool) → ltb y c ≡ t → ⊥
+      off y e true k = not-none (resident x (stateOf c p .lists)) (residentOf c p y) a (found-resident c p h x y e (ltb-true y c k))
+      off y e false k = past y e (ltb-false y c k) (ltb y (2 * c)) refl
+
+      go : (z : Place) → look (p .lookup) (placesOf c) (bucketsOf c) x ≡ z → look (p .lookup) (placesOf c) (bucketsOf c) x ≡ noPlace
+      go (at y) e = absurd (off y e (ltb y c) refl)
+      go noPlace e = e
+
 module _ (c : ℕ) (w : List ℕ) (s : Stored c w) (x : ℕ) where
   pub may-look : Fit c w (CanFind (lookupIn c w) (placesOf c) (bucketsOf c) x)
   unfolding partsOf
   may-look = record { small = s .holds .small; size = s .size; can = may-find c (partsOf c w) (s .holds) x }
-
-  -- an answer is a place of the lookup
-  low : (y : ℕ) → look (partsOf c w .lookup) (placesOf c) (bucketsOf c) x ≡ at y → y < 3 * c
-  low y e = held-below (partsOf c w .lookup) (placesOf c) (bucketsOf c) (bucketIn (partsOf c w .lookup) (placesOf c)) (s .holds .table) y (look-held (partsOf c w .lookup) (placesOf c) (bucketsOf c) (s .holds .table) x y e)
 
   -- ---- the answer by its number
   module _ (y : ℕ) (q : y ≡ placeOr (placesOf c) (look (lookupIn c w) (placesOf c) (bucketsOf c) x)) where
@@ -65,7 +85,7 @@ module _ (c : ℕ) (w : List ℕ) (s : Stored c w) (x : ℕ) where
     is-none h = go (look (lookupIn c w) (placesOf c) (bucketsOf c) x) refl q
       where
         go : (z : Place) → look (lookupIn c w) (placesOf c) (bucketsOf c) x ≡ z → y ≡ placeOr (placesOf c) z → look (lookupIn c w) (placesOf c) (bucketsOf c) x ≡ noPlace
-        go (at u) e k = absurd (let z : y ≡ u = k in let l : u < 3 * c = low u e in let n : ⊥ = omega arith in n)
+        go (at u) e k = absurd (let z : y ≡ u = k in let l : u < 3 * c = place-low c (partsOf c w) (s .holds) x u e in let n : ⊥ = omega arith in n)
         go noPlace e k = e
 
     -- ---- what it says
@@ -105,23 +125,3 @@ module _ (c : ℕ) (w : List ℕ) (s : Stored c w) (x : ℕ) where
     finds-nowhere l =
         let e = is-none l in
         (absent-no-resident c (partsOf c w) (s .holds) x e, found-nowhere c (partsOf c w) (s .holds) x e)
-
-  -- ---- a page that the state has nowhere
-  pub held-nowhere : resident x (stateIn c w .lists) ≡ none → placeOf x (stateIn c w .lists) ≡ nowhere → look (partsOf c w .lookup) (placesOf c) (bucketsOf c) x ≡ noPlace
-  unfolding stateIn
-  held-nowhere a b = go (look (partsOf c w .lookup) (placesOf c) (bucketsOf c) x) refl
-    where
-      cell : (y : ℕ) → look (partsOf c w .lookup) (placesOf c) (bucketsOf c) x ≡ at y → (i : Side) (g : ℕ) → g < c → y ≡ ghostPlace i c g → ⊥
-      cell y e i g l is = not-nowhere (placeOf x (stateOf c (partsOf c w) .lists)) i b (found-ghost c (partsOf c w) (s .holds) x y e i g l is)
-
-      past : (y : ℕ) → look (partsOf c w .lookup) (placesOf c) (bucketsOf c) x ≡ at y → c ≤ y → (t : Bool) → ltb y (2 * c) ≡ t → ⊥
-      past y e l true k = let h : y < 2 * c = ltb-true y (2 * c) k in cell y e first (y - c) (omega arith) (omega arith)
-      past y e l false k = let h : 2 * c ≤ y = ltb-false y (2 * c) k in let m : y < 3 * c = low y e in cell y e second (y - 2 * c) (omega arith) (omega arith)
-
-      off : (y : ℕ) → look (partsOf c w .lookup) (placesOf c) (bucketsOf c) x ≡ at y → (t : Bool) → ltb y c ≡ t → ⊥
-      off y e true k = not-none (resident x (stateOf c (partsOf c w) .lists)) (residentOf c (partsOf c w) y) a (found-resident c (partsOf c w) (s .holds) x y e (ltb-true y c k))
-      off y e false k = past y e (ltb-false y c k) (ltb y (2 * c)) refl
-
-      go : (z : Place) → look (partsOf c w .lookup) (placesOf c) (bucketsOf c) x ≡ z → look (partsOf c w .lookup) (placesOf c) (bucketsOf c) x ≡ noPlace
-      go (at y) e = absurd (off y e (ltb y c) refl)
-      go noPlace e = e

@@ -5,6 +5,7 @@ pub mod Finding
 pub mod Ghosts
 pub mod Ends
 pub mod Order
-pub mod Evicting
+pub mod Placing
+pub mod Exchanging
 pub mod Entering
 pub mod Laws

@@ -13,11 +13,11 @@ use Rattle.rules.specs.Car.{Car, car, slots}
 use Rattle.rings.specs.Members.{Mem}
 use Rattle.residents.specs.Residents.{listsOf}
 use Rattle.ghosts.specs.Ghosts.{liveOf}
-use Rattle.residents.specs.Changes.{freed}
 use Rattle.ghosts.specs.Ghosts.{recorded}
-use Rattle.parts.specs.Parts.{ghostsOf, ghostOf, setResidents, setGhosts}
-use Rattle.parts.specs.Changes.{recordPlaceOf}
-use Rattle.parts.specs.States.{residentAt}
+use Rattle.lookup.specs.Buckets.{placesOf}
+use Rattle.parts.specs.Parts.{ghostsOf, ghostOf, setGhosts, setLookup}
+use Rattle.parts.specs.Changes.{recordPlaceOf, isFull, clearedFor}
+use Rattle.parts.specs.States.{residentAt, evictedAt}
 use Rattle.area.specs.Area.{sideOf, partsOf, Became}
 use Rattle.area.specs.Stored.{Stored, stateIn, Left}
 use Rattle.store.specs.declared.Found.{Found}
@@ -29,6 +29,11 @@ pub record HasSlot (c : ℕ) (w : List ℕ) (i e : ℕ) : Type 0 where
   pub stored : Stored c w
   pub side : i < 2
   pub member : Mem e (listsOf (partsOf c w .residents) c i)
+
+-- some slot holds a resident of list i
+pub record AnySlot (c : ℕ) (w : List ℕ) (i : ℕ) : Type 0 where
+  pub number : ℕ
+  pub slot : HasSlot c w i number
 
 -- slot e holds a resident; of which list, the area tells
 pub record IsSlot (c : ℕ) (w : List ℕ) (e : ℕ) : Type 0 where
@@ -48,11 +53,15 @@ FoundIs c w x (Recent g) = HasGhost c w first g x × (resident x (stateIn c w .l
 FoundIs c w x (Frequent g) = HasGhost c w second g x × (resident x (stateIn c w .lists) ≡ none) × (placeOf x (stateIn c w .lists) ≡ ghost second)
 FoundIs c w x Nowhere = (resident x (stateIn c w .lists) ≡ none) × (placeOf x (stateIn c w .lists) ≡ nowhere)
 
--- what an eviction answers: the victim's page and frame
-pub record Evicts (c : ℕ) (w v : List ℕ) (e : ℕ) (o : Out) (s : Car) : Type 0 where
-  pub left : Left c w v s
+-- the page and the frame of the resident of slot e
+pub record Names (c : ℕ) (w : List ℕ) (e : ℕ) (o : Out) : Type 0 where
   pub page : o .page ≡ residentAt e (stateIn c w) .page
   pub frame : o .frame ≡ residentAt e (stateIn c w) .frame
+
+-- what is answered where the resident of slot e is put out
+pub record Evicts (c : ℕ) (w v : List ℕ) (e : ℕ) (o : Out) (s : Car) : Type 0 where
+  pub left : Left c w v s
+  pub out : Names c w e o
 
 -- a page may enter: a slot is free, and no list has the page
 pub record CanEnter (c : ℕ) (w : List ℕ) (x b : ℕ) : Type 0 where
@@ -92,7 +101,15 @@ pub record HasOldest (c : ℕ) (w : List ℕ) (i : ℕ) : Type 0 where
 unfoldable pub droppedAt : Side → Car → Car
 droppedAt i s = car (dropOldest i (s .lists)) (s .free)
 
--- half of an eviction: the slot e is free, and the ghost list of its side has given a cell, whose place is y; the lookup is as it was
-pub record Leaves (c : ℕ) (w v : List ℕ) (i e y : ℕ) : Type 0 where
+-- the ghost list of side i has given a cell, whose place is y; where the list was full, the page that the cell had has left the lookup
+pub record GivesPlace (c : ℕ) (w v : List ℕ) (i y : ℕ) : Type 0 where
   pub place : y ≡ recordPlaceOf (sideOf i) c (partsOf c w)
-  pub became : Became c w v (setGhosts (sideOf i) (recorded c (ghostsOf (sideOf i) (partsOf c w))) (setResidents (freed c e (partsOf c w .residents)) (partsOf c w)))
+  pub became : Became c w v (setLookup (clearedFor (isFull (sideOf i) c (partsOf c w)) (placesOf c) y (partsOf c w .lookup)) (setGhosts (sideOf i) (recorded c (ghostsOf (sideOf i) (partsOf c w))) (partsOf c w)))
+
+-- a page may take the slot of a resident that is put out: slot e holds one of list i, and once that is out no list has the page
+pub record CanExchange (c : ℕ) (w : List ℕ) (i e j x b : ℕ) : Type 0 where
+  pub slot : HasSlot c w i e
+  pub side : j < 2
+  pub fresh : resident x (evictedAt (sideOf i) e (stateIn c w) .lists) ≡ none
+  pub unrecorded : placeOf x (evictedAt (sideOf i) e (stateIn c w) .lists) ≡ nowhere
+  pub bit : b < 2

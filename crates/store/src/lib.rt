@@ -11,7 +11,7 @@ ghost use Rattle.parts.specs.States.{residentAt, framedAt, markedAt, aimedAt, f
 ghost use Rattle.parts.specs.Parts.{ghostPlace};
 ghost use Rattle.area.specs.Area.{sideOf};
 ghost use Rattle.area.specs.Stored.{Stored, stateIn, Left};
-ghost use Rattle.store.specs.Store.{HasSlot, IsSlot, HasGhost, FoundIs, Evicts, CanEnter, HasSome, FirstIs, LastIs, slotsAt, NextIs, HasOldest, droppedAt, Leaves};
+ghost use Rattle.store.specs.Store.{IsSlot, AnySlot, HasGhost, FoundIs, Evicts, CanEnter, HasSome, FirstIs, LastIs, slotsAt, NextIs, HasOldest, droppedAt, Names, GivesPlace, CanExchange};
 
 // Where a page is: a resident by its slot, a ghost of B1 (`Recent`) or of B2 (`Frequent`) by its cell, or in no list.
 pub enum Found {
@@ -21,7 +21,7 @@ pub enum Found {
     Nowhere,
 }
 
-// The victim of an eviction.
+// A resident that is put out, by its page and its frame.
 pub struct Out {
     pub page: u64,
     pub frame: u32,
@@ -207,43 +207,6 @@ pub fn drop_oldest(a: &mut [u64], c: usize, i: usize)
     area::lookup_part::take(a, c, y);
 }
 
-// The first half of an eviction: slot e is free, and the ghost list of its side gives a cell. The answer is the cell's place.
-fn leave(a: &mut [u64], c: usize, i: usize, e: usize) -> usize
-    requires { ⌜ HasSlot c (now a) i e ⌝ }
-    ensures { λ r. ⌜ Leaves c (now (a .entry)) (now (a .exit)) i e r ⌝ }
-{
-    area::resident_part::free(a, c, e);
-    let g = area::ghost_parts::record(a, c, i);
-    ghost_place(c, i, g)
-}
-
-// The resident of slot e, which stands in list i, is put out, and its page is recorded in the ghost list of that side. Where that list
-// was full, its oldest page leaves the lookup first.
-fn put_out(a: &mut [u64], c: usize, i: usize, e: usize)
-    requires { ⌜ HasSlot c (now a) i e ⌝ }
-    ensures { λ _. ⌜ Left c (now (a .entry)) (now (a .exit)) (evictedAt (sideOf i) e (stateIn c (now (a .entry)))) ⌝ }
-{
-    let n = area::ghost_parts::count(a, c, i);
-    let y = leave(a, c, i, e);
-    if n == c {
-        area::lookup_part::take(a, c, y);
-        area::lookup_part::rename(a, c, e, y);
-        return;
-    }
-    area::lookup_part::rename(a, c, e, y);
-}
-
-// The same, with the page and the frame of the victim.
-pub fn evict(a: &mut [u64], c: usize, i: usize, e: usize) -> Out
-    requires { ⌜ HasSlot c (now a) i e ⌝ }
-    ensures { λ r. ⌜ Evicts c (now (a .entry)) (now (a .exit)) e r (evictedAt (sideOf i) e (stateIn c (now (a .entry)))) ⌝ }
-{
-    let page = area::lookup_part::page(a, c, e);
-    let frame = area::resident_part::frame(a, c, e) as u32;
-    put_out(a, c, i, e);
-    Out { page, frame }
-}
-
 // A new resident of page x, in the top free slot: at the front, or at the end, of T1 (j = 0) or T2 (j = 1).
 pub fn enter_front(a: &mut [u64], c: usize, j: usize, x: u64, f: u32, b: u64)
     requires { ⌜ CanEnter c (now a) x b × (j < 2) ⌝ }
@@ -261,4 +224,76 @@ pub fn enter_end(a: &mut [u64], c: usize, j: usize, x: u64, f: u32, b: u64)
     let place = area::lookup_part::find(a, c, x);
     let e = area::resident_part::add_end(a, c, j, f as u64, b);
     area::lookup_part::put(a, c, place, e, x);
+}
+
+// The resident of slot e, as one that is put out.
+fn name(a: &[u64], c: usize, e: usize) -> Out
+    requires { ⌜ IsSlot c (now a) e ⌝ }
+    ensures { λ r. ⌜ Names c (now (a .entry)) e r ⌝ }
+{
+    let page = area::lookup_part::page(a, c, e);
+    let frame = area::resident_part::frame(a, c, e) as u32;
+    Out { page, frame }
+}
+
+// The ghost list of side i gives a cell for a page that is to be recorded. The answer is the cell's place. Where the list was full it is that of its oldest
+// page, which leaves the lookup.
+fn make_place(a: &mut [u64], c: usize, i: usize) -> usize
+    requires { ⌜ AnySlot c (now a) i ⌝ }
+    ensures { λ r. ⌜ GivesPlace c (now (a .entry)) (now (a .exit)) i r ⌝ }
+{
+    let n = area::ghost_parts::count(a, c, i);
+    let g = area::ghost_parts::record(a, c, i);
+    let y = ghost_place(c, i, g);
+    if n == c {
+        area::lookup_part::take(a, c, y);
+        return y;
+    }
+    y
+}
+
+// The resident of slot e, which stands in list i, is put out, and its page is recorded in the ghost list of that side; page and frame are the answer. The page x
+// takes the slot: at the front, or at the end, of T1 (j = 0) or T2 (j = 1). What is left is what is left by an eviction and an entry.
+pub fn exchange_front(
+    a: &mut [u64],
+    c: usize,
+    i: usize,
+    e: usize,
+    j: usize,
+    x: u64,
+    f: u32,
+    b: u64,
+) -> Out
+    requires { ⌜ CanExchange c (now a) i e j x b ⌝ }
+    ensures { λ r. ⌜ Evicts c (now (a .entry)) (now (a .exit)) e r (enteredAtFront (sideOf j) x f (eqb b 1) (evictedAt (sideOf i) e (stateIn c (now (a .entry))))) ⌝ }
+{
+    let out = name(a, c, e);
+    let y = make_place(a, c, i);
+    area::lookup_part::rename(a, c, e, y);
+    let place = area::lookup_part::find(a, c, x);
+    area::resident_part::exchange_front(a, c, e, j, f as u64, b);
+    area::lookup_part::put(a, c, place, e, x);
+    out
+}
+
+pub fn exchange_end(
+    a: &mut [u64],
+    c: usize,
+    i: usize,
+    e: usize,
+    j: usize,
+    x: u64,
+    f: u32,
+    b: u64,
+) -> Out
+    requires { ⌜ CanExchange c (now a) i e j x b ⌝ }
+    ensures { λ r. ⌜ Evicts c (now (a .entry)) (now (a .exit)) e r (enteredAtEnd (sideOf j) x f (eqb b 1) (evictedAt (sideOf i) e (stateIn c (now (a .entry))))) ⌝ }
+{
+    let out = name(a, c, e);
+    let z = make_place(a, c, i);
+    area::lookup_part::rename(a, c, e, z);
+    let place = area::lookup_part::find(a, c, x);
+    area::resident_part::exchange_end(a, c, e, j, f as u64, b);
+    area::lookup_part::put(a, c, place, e, x);
+    out
 }

@@ -3,8 +3,8 @@ use Rattle.arc.proofs.Inserting.{insertLaws}
 use Rattle.arc.proofs.enter.Statement.{statement}
 use Rattle.arc.proofs.enter.Tie as tie
 
-make-room-requires : tie.Need-make-room-requires
-make-room-requires c κs = search insertLaws
+residents-requires : tie.Need-residents-requires
+residents-requires c κs = search insertLaws
 
 enter-front-requires : tie.Need-enter-front-requires
 enter-front-requires c κs = search insertLaws
@@ -15,5 +15,23 @@ same-length c = search insertLaws
 returns : tie.Need-returns
 returns c = search insertLaws
 
+replace-requires : tie.Need-replace-requires
+replace-requires c κs = search insertLaws
+
+same-length-2 : tie.Need-same-length-2
+same-length-2 c = search insertLaws
+
+returns-2 : tie.Need-returns-2
+returns-2 c = search insertLaws
+
 pub enter-spec : {M : Type 1} → statement M
-enter-spec = tie.close (tie.spec make-room-requires enter-front-requires same-length returns)
+enter-spec =
+    tie.close
+    (tie.spec
+    residents-requires
+    enter-front-requires
+    same-length
+    returns
+    replace-requires
+    same-length-2
+    returns-2)

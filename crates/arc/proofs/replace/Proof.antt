@@ -9,8 +9,8 @@ turn-requires c κs = search replaceLaws
 last-requires : tie.Need-last-requires
 last-requires c κs = search replaceLaws
 
-evict-requires : tie.Need-evict-requires
-evict-requires c κs = search replaceLaws
+exchange-front-requires : tie.Need-exchange-front-requires
+exchange-front-requires c κs = search replaceLaws
 
 recorded-in-requires : tie.Need-recorded-in-requires
 recorded-in-requires c κs = search replaceLaws
@@ -22,4 +22,12 @@ returns : tie.Need-returns
 returns c = search replaceLaws
 
 pub replace-spec : {M : Type 1} → statement M
-replace-spec = tie.close (tie.spec turn-requires last-requires evict-requires recorded-in-requires same-length returns)
+replace-spec =
+    tie.close
+    (tie.spec
+    turn-requires
+    last-requires
+    exchange-front-requires
+    recorded-in-requires
+    same-length
+    returns)

@@ -1,55 +1,29 @@
--- `car::replace` meets its contract. The loop's invariant: the replacement of the area as it was is the steps so far, and then the replacement of the area as it is. The measure is how many are referenced. Assumes nothing.
-use Rattle.rules.specs.Car.{referenced}
-use Rattle.area.specs.Stored.{stateIn}
-use Rattle.car.proofs.Replacing.{Sweeps, replaceLaws}
+-- `car::replace` meets its contract. Assumes nothing.
+use Rattle.car.proofs.Replacing.{replaceLaws}
 use Rattle.car.proofs.replace.Statement.{statement}
 use Rattle.car.proofs.replace.Tie as tie
 
-abbrev Inv-loop : tie.InvT-loop
-Inv-loop a₀ c hit steps₀ a steps = Sweeps c a₀ a hit steps
+sweep-requires : tie.Need-sweep-requires
+sweep-requires c κs = search replaceLaws
 
-abbrev μ-loop : tie.MeasureT-loop
-μ-loop a₀ c hit steps₀ a steps = referenced (stateIn c a .lists)
+exchange-end-requires : tie.Need-exchange-end-requires
+exchange-end-requires c κs = search replaceLaws
 
-loop-holds : tie.Need-loop-holds Inv-loop μ-loop
-loop-holds c = search replaceLaws
+recorded-in-requires : tie.Need-recorded-in-requires
+recorded-in-requires c κs = search replaceLaws
 
-step-requires : tie.Need-step-requires Inv-loop μ-loop
-step-requires c κs = search replaceLaws
-
-enum-told : tie.Need-enum-told Inv-loop μ-loop
-enum-told c = search replaceLaws
-
-add-steps : tie.Need-add-steps Inv-loop μ-loop
-add-steps c = search replaceLaws
-
-loop-less : tie.Need-loop-less Inv-loop μ-loop
-loop-less c = search replaceLaws
-
-loop-again : tie.Need-loop-again Inv-loop μ-loop
-loop-again c = search replaceLaws
-
-enum-known-s : tie.Need-enum-known-s Inv-loop μ-loop
-enum-known-s c = search replaceLaws
-
-same-length : tie.Need-same-length Inv-loop μ-loop
+same-length : tie.Need-same-length
 same-length c = search replaceLaws
 
-returns : tie.Need-returns Inv-loop μ-loop
+returns : tie.Need-returns
 returns c = search replaceLaws
 
 pub replace-spec : {M : Type 1} → statement M
 replace-spec =
     tie.close
     (tie.spec
-    Inv-loop
-    μ-loop
-    loop-holds
-    step-requires
-    enum-told
-    add-steps
-    loop-less
-    loop-again
-    enum-known-s
+    sweep-requires
+    exchange-end-requires
+    recorded-in-requires
     same-length
     returns)

@@ -21,12 +21,6 @@ same-length c = search replaceLaws
 returns : tie.Need-returns
 returns c = search replaceLaws
 
-evict-requires : tie.Need-evict-requires
-evict-requires c κs = search replaceLaws
-
-recorded-in-requires : tie.Need-recorded-in-requires
-recorded-in-requires c κs = search replaceLaws
-
 same-length-2 : tie.Need-same-length-2
 same-length-2 c = search replaceLaws
 
@@ -43,7 +37,5 @@ step-spec =
     to-end-requires
     same-length
     returns
-    evict-requires
-    recorded-in-requires
     same-length-2
     returns-2)
