@@ -28,7 +28,7 @@ fn quotient(inverse: usize, x: usize) -> usize
 }
 
 // The bucket of the page p, one of k. `inverse` is a hint, 2^32 / k: where p and k are below 2^32, `quotient` is then the quotient or one less,
-// and the remainder comes without a division. Any other number gives the same answer, only slower.
+// and the remainder comes without a division. Any other number gives the same answer, only slower. The difference may wrap: then it is not below k, nor is it k less.
 pub fn bucket_of(k: usize, inverse: usize, p: u64) -> usize
     requires { ⌜ 0 < k ⌝ }
     ensures { λ r. ⌜ r ≡ bucketOf k p ⌝ }
@@ -37,15 +37,13 @@ pub fn bucket_of(k: usize, inverse: usize, p: u64) -> usize
     if x < 4294967296 {
         if k < 4294967296 {
             let t = quotient(inverse, x) * k;
-            if t <= x {
-                let r = x - t;
-                if r < k {
-                    return r;
-                }
-                let s = r - k;
-                if s < k {
-                    return s;
-                }
+            let r = std::num::wrapping_sub_usize(x, t);
+            if r < k {
+                return r;
+            }
+            let s = r - k;
+            if s < k {
+                return s;
             }
         }
     }

@@ -9,6 +9,9 @@ quotient-requires c κs = search laws
 mul-t : tie.Need-mul-t
 mul-t c = search laws
 
+wrapping-sub-usize-requires : tie.Need-wrapping-sub-usize-requires
+wrapping-sub-usize-requires c κs = search laws
+
 returns : tie.Need-returns
 returns c = search laws
 
@@ -23,4 +26,4 @@ returns-3 c = search laws
 
 pub bucket-of-spec : {M : Type 1} → statement M
 bucket-of-spec =
-    tie.close (tie.spec quotient-requires mul-t returns returns-2 rem-result returns-3)
+    tie.close (tie.spec quotient-requires mul-t wrapping-sub-usize-requires returns returns-2 rem-result returns-3)
