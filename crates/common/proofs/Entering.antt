@@ -53,9 +53,6 @@ room-stored c w h = h .stored
 pub come-room : (c : ℕ) (w : List ℕ) (j x : ℕ) → CanCome c w j x → HasRoom c w
 come-room c w j x h = h .can
 
-pub comes-room : (c : ℕ) (w : List ℕ) (p : Place) (x : ℕ) → Comes c w p x → HasRoom c w
-comes-room c w p x h = h .can
-
 pub can-displaces : (c : ℕ) (w : List ℕ) (j x : ℕ) → CanDisplace c w j x → HasResident c w
 can-displaces c w j x h = h .full
 

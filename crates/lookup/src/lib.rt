@@ -28,7 +28,7 @@ fn quotient(inverse: usize, x: usize) -> usize
 }
 
 // The bucket of the page p, one of k. `inverse` is a hint, 2^32 / k: where p and k are below 2^32, `quotient` is then the quotient or one less,
-// and the remainder comes without a division. Any other number gives the same answer, only slower. The difference may wrap: then it is not below k, nor is it k less.
+// and the remainder comes without a division. Any other number gives the same answer, only slower. Where the hint is wrong the difference may wrap: it is then too large for both tests.
 pub fn bucket_of(k: usize, inverse: usize, p: u64) -> usize
     requires { ⌜ 0 < k ⌝ }
     ensures { λ r. ⌜ r ≡ bucketOf k p ⌝ }

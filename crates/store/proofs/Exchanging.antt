@@ -26,6 +26,7 @@ use Rattle.area.specs.Stored.{stateIn, Left}
 use Rattle.area.proofs.Storing.{left}
 use Rattle.store.specs.Store.{AnySlot, IsSlot, GivesPlace, CanExchange}
 use Rattle.store.proofs.Steps.{number-of, residents-after, lookup-after, fits-after, became-as, then, then-lookup}
+use Rattle.store.proofs.Slots.{is-slot}
 use Rattle.store.proofs.Finding.{held-nowhere}
 
 module _ (c : ℕ) (w : List ℕ) (i e j x b : ℕ) (t : CanExchange c w i e j x b) where
@@ -33,7 +34,7 @@ module _ (c : ℕ) (w : List ℕ) (i e j x b : ℕ) (t : CanExchange c w i e j x
   exchange-any = record { number = e; slot = t .slot }
 
   pub exchange-slot : IsSlot c w e
-  exchange-slot = record { number = i; slot = t .slot }
+  exchange-slot = is-slot c w i e (t .slot)
 
   -- ---- the parts once the resident is out, as an eviction alone would leave them
   gone : Parts

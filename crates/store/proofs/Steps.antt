@@ -5,7 +5,7 @@ use mathlib.Core.List.{List}
 use Prim.Native.Nat.{ℕ, zero, suc, _<_}
 use native.Mathlib.Omega.{arith}
 use Rattle.rules.specs.State.{Side, first, second}
-use Rattle.parts.specs.Parts.{Parts, ghostsOf, setGhosts, setLookup, numberOf}
+use Rattle.parts.specs.Parts.{Parts, ghostsOf, setLookup, numberOf}
 use Rattle.area.specs.Area.{sideOf, residentsIn, ghostsIn, lookupIn, partsOf, Fit, Became}
 use Rattle.area.specs.Stored.{Stored}
 
@@ -31,9 +31,6 @@ module _ (c : ℕ) (w v : List ℕ) (q : Parts) (b : Became c w v q) where
   unfolding partsOf
   lookup-after = ap (λ (p : Parts). p .lookup) (b .parts)
 
-  pub ghosts-after : (i : Side) → ghostsIn i c v ≡ ghostsOf i q
-  ghosts-after i = sym (ghosts-in i c v) ∙ ap (ghostsOf i) (b .parts)
-
   pub fits-after : (A : Type 0) → Stored c w → A → Fit c v A
   fits-after A s a = record { small = s .holds .small; size = rw (b .size) (s .size); can = a }
 
@@ -43,18 +40,7 @@ module _ (c : ℕ) (w v : List ℕ) (q : Parts) (b : Became c w v q) where
   pub then : (u : List ℕ) (r : Parts) → Became c v u r → Became c w u r
   then u r d = record { size = d .size ∙ b .size; parts = d .parts; kind = d .kind ∙ b .kind; capacity = d .capacity ∙ b .capacity; rest = d .rest ∙ b .rest }
 
-  -- ---- a call on a ghost list, and on the lookup
-  pub then-ghosts : (i : Side) (u : List ℕ) (f : List ℕ → List ℕ) → Became c v u (setGhosts i (f (ghostsIn i c v)) (partsOf c v)) → Became c w u (setGhosts i (f (ghostsOf i q)) q)
-  then-ghosts i u f d =
-      let e = then u (setGhosts i (f (ghostsIn i c v)) (partsOf c v)) d in
-      record {
-        size = e .size;
-        parts = e .parts ∙ ap (λ (l : List ℕ). setGhosts i (f l) (partsOf c v)) (sym (ghosts-in i c v)) ∙ ap (λ (p : Parts). setGhosts i (f (ghostsOf i p)) p) (b .parts);
-        kind = e .kind;
-        capacity = e .capacity;
-        rest = e .rest;
-      }
-
+  -- ---- a call on the lookup
   pub then-lookup : (u : List ℕ) (f : List ℕ → List ℕ) → Became c v u (setLookup (f (lookupIn c v)) (partsOf c v)) → Became c w u (setLookup (f (q .lookup)) q)
   unfolding partsOf
   then-lookup u f d =
