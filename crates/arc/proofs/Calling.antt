@@ -1,29 +1,36 @@
--- ARC's rules obey the laws that both policies share; its hits and removals. Assumes nothing.
-use mathlib.Core.Path.{_≡_, refl}
-use mathlib.Core.List.{List}
-use Prim.Native.Nat.{ℕ, _^_, _<_}
-use borrow.Author.Needs.{needs}
-use borrow.Author.Tests.{eq-eqb}
-use Rattle.rules.specs.Calls.{Get, Remove}
-use Rattle.rules.specs.Arc.{new, got, removed, inserted, does}
+-- ARC's rules obey the laws that both policies share. Assumes nothing.
+use mathlib.Core.Path.{_≡_, refl, ap}
+use mathlib.Core.Bool.{false}
+use Prim.Native.Nat.{ℕ}
+use native.Mathlib.Omega.{arith}
+use borrow.Author.Tests.{eq-eqb, ne-eqb}
+use Rattle.rules.specs.State.{seen}
+use Rattle.rules.specs.Calls.{Place, ghost, nowhere, Old, done}
+use Rattle.rules.specs.Stages.{goesTo}
+use Rattle.rules.specs.Arc.{Arc, new, replace, missed, roomFor, admitted, insertAt, got, removed, inserted, does}
 use Rattle.rules.specs.Car.{new as newState}
 use Rattle.rules.proofs.Closure.{arc-call}
-use Rattle.parts.specs.States.{residentAt, frontedAt, removedAt}
-use Rattle.area.specs.Stored.{stateIn, Left, arcOf}
-use Rattle.answers.specs.Answers.{gotIs, goneIs}
-use Rattle.answers.specs.declared.Got.the-variants.{Hit}
-use Rattle.answers.specs.declared.Gone.the-variants.{Frame}
+use Rattle.parts.specs.States.{residentAt, frontedAt, enteredAtFront}
+use Rattle.area.specs.Stored.{arcOf}
 use Rattle.calls.specs.Policy.{arcPolicy}
-use Rattle.calls.specs.Inner.{Good, Did}
-use Rattle.common.specs.Common.{SlotIs}
-use Rattle.common.specs.declared.Slot.the-variants.{At}
-use Rattle.common.proofs.Finding.{has-words, arm-at, arm-slot, arm-nobody}
-use Rattle.common.proofs.Staging.{staged}
-use Rattle.common.proofs.Lawful.{Lawful, did, get-miss, remove-absent, clear-did, good-stored}
-use Rattle.common.proofs.Asking.{peek-see, peek-no, holds-it, holds-not, len-says, capacity-says, target-says, t1-says, t2-says, b1-says, b2-says}
-use Rattle.arc.proofs.Plain.{here, away, asked-plainly, fronted-plainly, removed-plainly}
+use Rattle.common.specs.Stages.{ofB2, entered}
+use Rattle.common.proofs.Lawful.{Stages, Lawful}
+use Rattle.common.proofs.Laws.{callNeeds}
+use Rattle.arc.specs.Insert.{ready, made, updated}
+use Rattle.arc.proofs.Plain.{here, away, residents-plainly, full-plainly, seen-plainly, asked-plainly, fronted-plainly, removed-plainly, entered-plainly, hit-plainly}
+use Rattle.arc.proofs.Updating.{fronted-framed}
+use Rattle.arc.proofs.Replacing.{replace-freed}
 
-pub lawful : Lawful arcPolicy
+abbrev pub stages : Stages arcPolicy
+stages = record { touched = frontedAt; put = enteredAtFront; ready = ready; made = made; replace = replace; admitted = admitted; updated = updated }
+
+-- the rules' own stages
+by-stages : (p : Place) (x f : ℕ) (s : Arc) → insertAt p x f s ≡ entered (admitted (goesTo p) x f) (made (ofB2 p) (ready p x s))
+unfolding insertAt roomFor missed
+by-stages (ghost i) x f s = refl
+by-stages nowhere x f s = refl
+
+pub lawful : Lawful arcPolicy stages
 unfolding does got removed inserted new newState arcOf
 lawful = record {
   closed = arc-call;
@@ -31,46 +38,16 @@ lawful = record {
   misses = λ x s q. rw (away x s q) refl;
   absent = λ x s q. rw (away x s q) refl;
   clears = λ s. refl;
+  hits = λ x e s q. rw (here x s (residentAt e s) q, fronted-plainly e s) refl;
+  removes = λ x e s q k. rw (here x s (residentAt e s) q, removed-plainly e s) refl;
   nothing = λ x f s q. rw (eq-eqb (s .lists .c) 0 q) refl;
+  updates = λ x f e s n q. rw (ne-eqb (s .lists .c) 0 n, here x s (residentAt e s) q) refl;
+  inserts = λ x f p s n q k. rw (ne-eqb (s .lists .c) 0 n, away x s q, k) (by-stages p x f (arcOf s));
+  frames = λ e f s q. ap (λ (t : Arc). done (Old (residentAt e s .frame)) t) (fronted-framed e f s q);
+  returns = hit-plainly;
+  makes = λ hit s. rw (full-plainly s) refl;
+  frees = λ hit s t h q x. omega (arith, replace-freed hit (arcOf s) (rw (residents-plainly s) h) .fewer x, ap (seen x) q, seen-plainly x s, seen-plainly x t);
+  puts = λ i x f s. entered-plainly i x f false s;
 }
 
-module _ (c : ℕ) (w : List ℕ) (g : Good arcPolicy c w) (x : ℕ) (hx : x < 2 ^ 64) (e f : ℕ) (t : SlotIs c w x (At e)) (q : f ≡ residentAt e (stateIn c w) .frame) (v : List ℕ) where
-  pub get-hit : Left c w v (frontedAt e (stateIn c w)) → Did arcPolicy (Get x) c w v (gotIs (Hit f))
-  unfolding does got
-  get-hit l =
-      let s = frontedAt e (stateIn c w) in
-      let z = here x (stateIn c w) (residentAt e (stateIn c w)) (t .1) in
-      did arcPolicy lawful c w g (Get x) v (gotIs (Hit f)) (arcOf s) hx (staged arcPolicy c w v s (arcOf s) l refl) (rw z (fronted-plainly e (stateIn c w))) (rw (z, q) refl)
-
-  pub remove-gone : Left c w v (removedAt e (stateIn c w)) → Did arcPolicy (Remove x) c w v (goneIs (Frame f))
-  unfolding does removed
-  remove-gone l =
-      let s = removedAt e (stateIn c w) in
-      let z = here x (stateIn c w) (residentAt e (stateIn c w)) (t .1) in
-      did arcPolicy lawful c w g (Remove x) v (goneIs (Frame f)) (arcOf s) hx (staged arcPolicy c w v s (arcOf s) l refl) (rw z (removed-plainly e (stateIn c w))) (rw (z, q) refl)
-
-pub ruleset callLaws = (
-  lawful,
-  good-stored,
-  has-words,
-  arm-at,
-  arm-slot,
-  arm-nobody,
-  get-miss,
-  get-hit,
-  remove-absent,
-  remove-gone,
-  clear-did,
-  peek-see,
-  peek-no,
-  holds-it,
-  holds-not,
-  len-says,
-  capacity-says,
-  target-says,
-  t1-says,
-  t2-says,
-  b1-says,
-  b2-says,
-  needs,
-)
+pub ruleset callLaws = (lawful, callNeeds)

@@ -3,7 +3,7 @@
 use mathlib.Core.Path.{_≡_, refl, sym, ap, _∙_}
 use mathlib.Core.Bool.{Bool, true, false, cond}
 use mathlib.Core.Option.{Option, some, none}
-use mathlib.Core.List.{List, [], _∷_, _++_, map}
+use mathlib.Core.List.{List, [], _∷_, _++_, map, map-append}
 use Prim.Native.Nat.{ℕ}
 use lib.Dec.{eqb}
 use lib.ListN.{length-map}
@@ -33,10 +33,6 @@ found-plainly x (e ∷ l) = go (found-plainly x l) (eqb x (e .page))
     go h true = refl
     go h false = h
 
-append-plainly : (l m : List Resident) → map plainly (l ++ m) ≡ map plainly l ++ map plainly m
-append-plainly [] m = refl
-append-plainly (e ∷ l) m = ap (λ (k : List (Entry Plain)). plainly e ∷ k) (append-plainly l m)
-
 pub without-plainly : (x : ℕ) (l : List Resident) → without x (map plainly l) ≡ map plainly (without x l)
 without-plainly x [] = refl
 without-plainly x (e ∷ l) = go (without-plainly x l) (eqb x (e .page))
@@ -58,7 +54,7 @@ pages-plainly (e ∷ l) = ap (λ (k : List ℕ). e .page ∷ k) (pages-plainly l
 -- ---- what is read of the state
 pub resident-plainly : (x : ℕ) (s : Car) → resident x (arcOf s) ≡ plainlyIf (resident x (s .lists))
 unfolding arcOf
-resident-plainly x s = ap (found x) (sym (append-plainly (s .lists .T1) (s .lists .T2))) ∙ found-plainly x (s .lists .T1 ++ s .lists .T2)
+resident-plainly x s = ap (found x) (sym (map-append plainly (s .lists .T1) (s .lists .T2))) ∙ found-plainly x (s .lists .T1 ++ s .lists .T2)
 
 pub here : (x : ℕ) (s : Car) (e : Resident) → resident x (s .lists) ≡ some e → resident x (arcOf s) ≡ some (plainly e)
 unfolding plainlyIf

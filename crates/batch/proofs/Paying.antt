@@ -1,25 +1,23 @@
 -- What one operation may count: at most one of each but steps, and no more steps than it finds pages marked and pays for itself (demand 3). So the counts of a batch stay
 -- small. Assumes nothing.
 use mathlib.Core.Bool.{Bool, true, false, cond}
-use mathlib.Core.List.{List, [], _∷_}
 use mathlib.Core.Option.{Option, some, none}
-use Prim.Native.Nat.{ℕ, suc, _+_, _≤_}
+use Prim.Native.Nat.{ℕ, _+_, _≤_}
 use native.Mathlib.Omega.{arith}
 use lib.Dec.{eqb, ltb}
-use lib.ListN.{length}
-use Rattle.rules.specs.Lists.{one, last}
+use Rattle.rules.specs.Lists.{last}
 use Rattle.rules.specs.State.{Side, list, residents, resident, full, maxCapacity}
-use Rattle.rules.specs.Calls.{Call, Get, Insert, Remove, Clear, Ask, Question, Peek, Contains, Len, Capacity, Target, T1Len, T2Len, B1Len, B2Len, Listing, Place, ghost, nowhere, Victim, nobody, out, Answer, Hit, Miss, New, Old, None, Gone, Absent, Cleared, See, No, Holds, Number, Made, Finished, Stopped, Refused, Done, done, seenFrame, asked, Replaced, steps, replaceIf}
+use Rattle.rules.specs.Calls.{Call, Get, Insert, Remove, Clear, Ask, Question, Peek, Contains, Len, Capacity, Target, T1Len, T2Len, B1Len, B2Len, Listing, Place, ghost, nowhere, Victim, nobody, out, Answer, Hit, Miss, New, Old, None, Gone, Absent, Cleared, See, No, Holds, Number, Made, Finished, Stopped, Refused, Done, done, seenFrame, asked, steps, replaceIf}
 use Rattle.rules.specs.Stages.{placeOf, ghostHit, isB2, turn}
 use Rattle.rules.specs.Counts.{Counts, counted, outs, hits}
 use Rattle.rules.specs.Arc as arc
 use Rattle.rules.specs.Arc.{Arc}
-use Rattle.rules.specs.Car as car
-use Rattle.rules.specs.Car.{Car, marks, referenced}
+use Rattle.rules.specs.Car.{Car, referenced}
 use Rattle.rules.proofs.Demand3.{does-pays}
 use Rattle.calls.specs.Policy.{policyOf}
 use Rattle.calls.specs.declared.Kind.{Kind}
 use Rattle.calls.specs.declared.Kind.the-variants as kinds
+use Rattle.car.proofs.Replacing.{marks-few}
 
 -- ---- one answer counts at most one of each but steps
 pub record AtMostOne (n : Counts) : Type 0 where
@@ -128,14 +126,6 @@ pub pays : (k : Kind) (call : Call) (s : policyOf k .State) → policyOf k .Well
     counted (d .answer) .steps + marksOf k (d .state) ≤ marksOf k s + hits (counted (d .answer)) + counted (d .answer) .evictions
 pays kinds.Arc call s w = omega (arith, does-steps call s)
 pays kinds.Car call s w = does-pays call s (w .obeys)
-
-marks-few : (l : List car.Resident) → marks l ≤ length l
-marks-few [] = omega arith
-marks-few (e ∷ l) = go (e .more .bit) (marks-few l)
-  where
-    go : (b : Bool) → marks l ≤ length l → one b + marks l ≤ suc (length l)
-    go true h = omega arith
-    go false h = omega arith
 
 -- at most as many as a cache holds
 pub few-marked : (k : Kind) (s : policyOf k .State) → policyOf k .WellFormed s → marksOf k s ≤ maxCapacity

@@ -1,5 +1,5 @@
 -- The laws that answer the needs of `car`. Assumes nothing.
+pub mod Updating
 pub mod Calling
 pub mod Replacing
 pub mod Inserting
-pub mod Updating

@@ -4,20 +4,17 @@ use mathlib.Core.Bool.{Bool}
 use mathlib.Core.List.{List, [], _∷_}
 use Prim.Native.Nat.{ℕ, _+_}
 use Rattle.rules.specs.State.{Side, residents}
-use Rattle.rules.specs.Calls as Calls
-use Rattle.rules.specs.Calls.{out, ghost, replaced, steps}
-use Rattle.rules.specs.Car.{Car, referenced, stepThen, replace}
-use Rattle.parts.specs.States.{residentAt, evictedAt}
+use Rattle.rules.specs.Calls.{replaced}
+use Rattle.rules.specs.Car.{referenced, stepThen, replace}
+use Rattle.parts.specs.States.{evictedAt}
 use Rattle.area.specs.Area.{sideOf}
 use Rattle.area.specs.Stored.{stateIn, Left}
 use Rattle.store.specs.Store.{HasSlot}
+use Rattle.calls.specs.Policy.{carPolicy}
+use Rattle.common.specs.Stages.{outOf, Chosen}
 use Rattle.car.specs.declared.Stepped as declaredStep
 use Rattle.car.specs.declared.Stepped.the-variants.{Passed, Meets}
 use Rattle.car.specs.declared.Victim.{Victim}
-
--- the resident of slot e of list i as a victim
-abbrev pub outOf : ℕ → ℕ → Car → Calls.Victim
-outOf i e s = out (residentAt e s .page) (residentAt e s .frame) (ghost (sideOf i))
 
 -- a step that puts nobody out: a replacement is that step, and then the replacement of what it leaves; one mark is cleared
 pub record Passes (c : ℕ) (w v : List ℕ) (hit : Bool) : Type 0 where
@@ -38,9 +35,5 @@ StepIs c w v hit Passed = Passes c w v hit
 StepIs c w v hit (Meets i e) = Meeting c w v hit i e
 
 -- a whole replacement but for the putting out: v is the area after its steps, and r the victim
-pub record Chooses (c : ℕ) (w v : List ℕ) (hit : Bool) (r : Victim) : Type 0 where
-  pub left : Left c w v (stateIn c v)
-  pub slot : HasSlot c v (r .list) (r .slot)
-  pub victim : replace hit (stateIn c w) .victim ≡ outOf (r .list) (r .slot) (stateIn c v)
-  pub state : replace hit (stateIn c w) .state ≡ evictedAt (sideOf (r .list)) (r .slot) (stateIn c v)
-  pub steps : steps (replace hit (stateIn c w)) ≡ r .steps
+abbrev pub Chooses : ℕ → List ℕ → List ℕ → Bool → Victim → Type 0
+Chooses c w v hit r = Chosen carPolicy replace c w v hit (r .list) (r .slot) (r .steps)

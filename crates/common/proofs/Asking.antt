@@ -6,9 +6,8 @@ use Prim.Native.Nat.{ℕ}
 use lib.ListN.{length}
 use Rattle.rules.specs.State.{list, ghosts, residents}
 use Rattle.rules.specs.Calls.{Question, Peek, Contains, Len, Capacity, Target, T1Len, T2Len, B1Len, B2Len, Answer, Holds, Number, asked}
-use Rattle.parts.specs.Parts.{stateOf as stateAs}
 use Rattle.parts.specs.States.{residentAt}
-use Rattle.area.specs.Area.{partsOf, sideOf, targetOf}
+use Rattle.area.specs.Area.{sideOf, targetOf}
 use Rattle.area.specs.Stored.{stateIn}
 use Rattle.answers.specs.Answers.{seenIs}
 use Rattle.answers.specs.declared.Seen.the-variants.{See, No}
@@ -17,10 +16,10 @@ use Rattle.calls.specs.Inner.{Says}
 use Rattle.common.specs.Common.{SlotIs}
 use Rattle.common.specs.declared.Slot.{Slot}
 use Rattle.common.specs.declared.Slot.the-variants.{At, Nobody}
-use Rattle.common.proofs.Finding.{state-c, arm-at}
-use Rattle.common.proofs.Lawful.{Lawful}
+use Rattle.common.proofs.Finding.{state-c, state-target, arm-at}
+use Rattle.common.proofs.Lawful.{Stages, Lawful}
 
-module _ (P : Policy) (law : Lawful P) (c : ℕ) (w : List ℕ) where
+module _ (P : Policy) (S : Stages P) (law : Lawful P S) (c : ℕ) (w : List ℕ) where
   says : (q : Question) (a : Answer) → a ≡ asked q (stateIn c w .lists) → Says P q c w a
   says q a h = record { answer = h ∙ sym (law .asks q (stateIn c w)) }
 
@@ -52,8 +51,8 @@ module _ (P : Policy) (law : Lawful P) (c : ℕ) (w : List ℕ) where
   capacity-says = says Capacity (Number c) (rw (state-c c w) refl)
 
   pub target-says : (n : ℕ) → n ≡ targetOf w → Says P Target c w (Number n)
-  unfolding asked stateIn stateAs partsOf
-  target-says n q = says Target (Number n) (rw q refl)
+  unfolding asked
+  target-says n q = says Target (Number n) (rw (state-target c w, q) refl)
 
   pub t1-says : (n : ℕ) → n ≡ length (list (sideOf 0) (stateIn c w .lists)) → Says P T1Len c w (Number n)
   unfolding asked

@@ -1,15 +1,16 @@
 -- The area as a store: what every call has at hand, and what `find` told, of the case that it is. Assumes nothing.
-use mathlib.Core.Path.{_≡_, refl, subst}
+use mathlib.Core.Path.{_≡_, refl, subst, ap, _∙_}
 use mathlib.Core.List.{List}
 use Prim.Native.Nat.{ℕ, _+_, _*_, _^_, _<_, _≤_}
 use native.Mathlib.Omega.{arith}
 use lib.ListN.{length}
 use Rattle.rules.specs.State.{list, residents}
-use Rattle.rules.specs.Car.{Obeys}
+use Rattle.rules.specs.Car.{Obeys, Resident as Clocked}
 use Rattle.rules.proofs.ClosureCar.{slots-left}
 use Rattle.parts.specs.Parts.{stateOf}
-use Rattle.parts.proofs.Reading.{state-obeys}
-use Rattle.area.specs.Area.{partsOf, sideOf}
+use Rattle.parts.specs.States.{residentAt}
+use Rattle.parts.proofs.Reading.{resident-at, slot-is, state-obeys}
+use Rattle.area.specs.Area.{partsOf, sideOf, targetOf}
 use Rattle.area.specs.Stored.{Stored, stateIn}
 use Rattle.store.specs.Store.{IsSlot, FoundIs}
 use Rattle.store.specs.declared.Found.{Found}
@@ -22,6 +23,14 @@ use Rattle.common.specs.declared.Slot.the-variants.{At, Nobody}
 pub state-c : (c : ℕ) (w : List ℕ) → stateIn c w .lists .c ≡ c
 unfolding stateIn stateOf
 state-c c w = refl
+
+pub state-target : (c : ℕ) (w : List ℕ) → stateIn c w .lists .target ≡ targetOf w
+unfolding stateIn stateOf partsOf
+state-target c w = refl
+
+pub slot-at : (c : ℕ) (w : List ℕ) (e : ℕ) → IsSlot c w e → residentAt e (stateIn c w) .more .slot ≡ e
+unfolding stateIn
+slot-at c w e t = ap (λ (r : Clocked). r .more .slot) (resident-at c (partsOf c w) (t .number) e (t .slot .side) (t .slot .member)) ∙ slot-is c (partsOf c w) e
 
 module _ (c : ℕ) (w : List ℕ) (s : Stored c w) where
   pub has-words : 64 ≤ length w

@@ -1,18 +1,15 @@
 -- The ghost hit: the target moves, and the page leaves its ghost list. Assumes nothing.
-use mathlib.Core.Path.{_≡_, refl, sym, ap, _∙_}
+use mathlib.Core.Path.{_≡_, refl, sym, _∙_}
 use mathlib.Core.List.{List}
 use Prim.Native.Nat.{ℕ, _+_, _-_, _<_, _≤_, min}
 use native.Mathlib.Omega.{arith}
-use Rattle.rules.specs.State.{setTarget}
-use Rattle.rules.specs.Ghosts.{removeGhost}
-use Rattle.rules.specs.Car.{Car, car}
-use Rattle.parts.specs.Parts.{stateOf}
 use Rattle.parts.specs.States.{aimedAt, forgotAt}
-use Rattle.area.specs.Area.{partsOf, sideOf, targetOf}
+use Rattle.area.specs.Area.{sideOf, targetOf}
 use Rattle.area.specs.Stored.{Stored, stateIn, Left}
 use Rattle.store.specs.Store.{HasGhost}
 use Rattle.common.specs.Common.{AimIs, hitAt}
-use Rattle.common.proofs.Finding.{state-c, obeys}
+use Rattle.common.proofs.Finding.{state-c, state-target, obeys}
+use Rattle.common.proofs.Staging.{then-left}
 
 aimed-recent : (c t : ℕ) → t < c → t + 1 ≡ min c (t + 1)
 aimed-recent c t l = omega arith
@@ -22,8 +19,7 @@ aimed-most c t l = omega arith
 
 module _ (c : ℕ) (w : List ℕ) (s : Stored c w) (t : ℕ) (q : t ≡ targetOf w) where
   target-is : stateIn c w .lists .target ≡ t
-  unfolding stateIn stateOf partsOf
-  target-is = sym q
+  target-is = state-target c w ∙ sym q
 
   low : t ≤ c
   low = omega (arith, obeys c w s .sound .aim, state-c c w, target-is)
@@ -47,14 +43,7 @@ module _ (c : ℕ) (w : List ℕ) (i x : ℕ) where
 
     pub hit-left : (u : List ℕ) → Left c v u (aimedAt t (stateIn c v)) → Left c w u (hitAt (sideOf i) x (stateIn c w))
     unfolding aimedAt forgotAt
-    hit-left u d =
-        record {
-          stored = d .stored;
-          reads = d .reads ∙ ap (λ (s : Car). aimedAt t s) (l .reads) ∙ ap (λ (n : ℕ). car (setTarget n (removeGhost (sideOf i) x (stateIn c w .lists))) (stateIn c w .free)) (a .is);
-          kind = d .kind ∙ l .kind;
-          size = d .size ∙ l .size;
-          rest = d .rest ∙ l .rest;
-        }
+    hit-left u d = rw (a .is) at (then-left c w v u (forgotAt (sideOf i) x (stateIn c w)) (aimedAt t) l d)
 
 pub hit-aims : (c : ℕ) (w : List ℕ) (i g x : ℕ) → HasGhost c w (sideOf i) g x → i < 2 → Stored c w × (i < 2)
 hit-aims c w i g x h b = (h .stored, b)

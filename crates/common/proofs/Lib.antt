@@ -6,5 +6,7 @@ pub mod Staging
 pub mod Lawful
 pub mod Asking
 pub mod Entering
+pub mod Replacing
+pub mod Inserting
 pub mod Updating
 pub mod Laws

@@ -1,13 +1,17 @@
--- Stages, one after another, over the policy. Assumes nothing.
+-- What the store leaves, and stages, one after another, over the policy. Assumes nothing.
 use mathlib.Core.Path.{_≡_, refl, ap, _∙_}
 use mathlib.Core.List.{List}
 use Prim.Native.Nat.{ℕ}
 use Rattle.rules.specs.Calls.{Done}
 use Rattle.rules.specs.Car.{Car}
-use Rattle.area.specs.Stored.{Stored, Left}
+use Rattle.area.specs.Stored.{Stored, stateIn, Left}
 use Rattle.answers.specs.declared.Inserted.{Inserted}
 use Rattle.calls.specs.Policy.{Policy, stateOf}
 use Rattle.common.specs.Stages.{Stage, Gives}
+
+-- the store does f after s was left
+pub then-left : (c : ℕ) (w v u : List ℕ) (s : Car) (f : Car → Car) → Left c w v s → Left c v u (f (stateIn c v)) → Left c w u (f s)
+then-left c w v u s f l d = record { stored = d .stored; reads = d .reads ∙ ap f (l .reads); kind = d .kind ∙ l .kind; size = d .size ∙ l .size; rest = d .rest ∙ l .rest }
 
 module _ (P : Policy) (c : ℕ) where
   -- what the store leaves is a stage, in the policy's view

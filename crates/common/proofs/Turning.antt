@@ -10,11 +10,11 @@ use borrow.Author.Tests.{lt-ltb, le-ltb, eq-eqb, ne-eqb}
 use Rattle.rules.specs.State.{list}
 use Rattle.rules.specs.Stages.{prefersT1}
 use Rattle.rules.proofs.StateLaws.{turn-some}
-use Rattle.parts.specs.Parts.{stateOf}
-use Rattle.area.specs.Area.{partsOf, sideOf, targetOf}
+use Rattle.area.specs.Area.{sideOf, targetOf}
 use Rattle.area.specs.Stored.{Stored, stateIn}
 use Rattle.store.specs.Store.{HasSome}
 use Rattle.common.specs.Common.{HasResident, TurnIs}
+use Rattle.common.proofs.Finding.{state-target}
 
 -- ---- whether T1 comes first
 pub prefers-none : (n t : ℕ) (h : Bool) → n ≡ 0 → false ≡ prefersT1 h t n
@@ -33,13 +33,9 @@ pub prefers-shorter : (n t : ℕ) (h : Bool) → (n ≡ 0 → ⊥) → n ≤ t �
 prefers-shorter n t h z l q = rw (some-test n z, le-ltb t n l, ne-eqb n t q) refl
 
 module _ (c : ℕ) (w : List ℕ) (s : Stored c w) where
-  target-is : stateIn c w .lists .target ≡ targetOf w
-  unfolding stateIn stateOf partsOf
-  target-is = refl
-
   module _ (hit : Bool) (n t : ℕ) (p : n ≡ length (list (sideOf 0) (stateIn c w .lists))) (q : t ≡ targetOf w) (b : Bool) (k : b ≡ prefersT1 hit t n) where
     test-is : prefersT1 hit (stateIn c w .lists .target) (length (stateIn c w .lists .T1)) ≡ b
-    test-is = sym (k ∙ ap (λ (m : ℕ). prefersT1 hit t m) p ∙ ap (λ (m : ℕ). prefersT1 hit m (length (stateIn c w .lists .T1))) (q ∙ sym target-is))
+    test-is = sym (k ∙ ap (λ (m : ℕ). prefersT1 hit t m) p ∙ ap (λ (m : ℕ). prefersT1 hit m (length (stateIn c w .lists .T1))) (q ∙ sym (state-target c w)))
 
     pub turn-first : b ≡ true → TurnIs c w hit 0
     turn-first z = record { side = omega arith; is = rw (test-is ∙ z) refl }

@@ -6,11 +6,13 @@ use mathlib.Core.List.{List}
 use Prim.Native.Nat.{ℕ, _<_}
 use lib.ListN.{length, drop}
 use Rattle.rules.specs.State.{resident, seen}
-use Rattle.rules.specs.Calls.{Place, New, ghost, nowhere, Replaced, steps, Done, done}
+use Rattle.rules.specs.Calls.{Place, New, ghost, nowhere, Victim, out, Replaced, steps, Done, done}
 use Rattle.rules.specs.Stages.{placeOf, isB2, goesTo}
+use Rattle.rules.specs.Car.{Car}
+use Rattle.parts.specs.States.{residentAt, evictedAt}
 use Rattle.area.specs.Area.{kindOf, endAt, sideOf}
-use Rattle.area.specs.Stored.{Stored, stateIn}
-use Rattle.store.specs.Store.{HasGhost, FoundIs}
+use Rattle.area.specs.Stored.{Stored, stateIn, Left}
+use Rattle.store.specs.Store.{HasSlot, HasGhost, FoundIs}
 use Rattle.store.specs.declared.Found.the-variants.{Resident}
 use Rattle.answers.specs.Answers.{insertedIs}
 use Rattle.answers.specs.declared.Inserted.{Inserted}
@@ -57,6 +59,10 @@ ofB2 nowhere = false
 abbrev pub entered : {S : Type 0} → (S → S) → Replaced S → Done S
 entered put m = done (New (m .victim) (steps m)) (put (m .state))
 
+-- the resident of slot e of list i as a victim
+abbrev pub outOf : ℕ → ℕ → Car → Victim
+outOf i e s = out (residentAt e s .page) (residentAt e s .frame) (ghost (sideOf i))
+
 module _ (P : Policy) where
   -- ---- what is left: an area that the policy reads as s, of the same kind and length, and with nothing past the area's need changed
   pub record Stage (c : ℕ) (w v : List ℕ) (s : P .State) : Type 0 where
@@ -84,3 +90,11 @@ module _ (P : Policy) where
     abbrev pub WayIs : ℕ → List ℕ → List ℕ → ℕ → way.Way → Type 0
     WayIs c w v x (ways.Stays e) = (v ≡ w) × FoundIs c w x (Resident e)
     WayIs c w v x (ways.Comes j hit) = Ready c w v x j hit
+
+  -- ---- a whole replacement but for the putting out: v is the area after its n steps, and slot e of list i has the victim
+  pub record Chosen (replace : Bool → P .State → Replaced (P .State)) (c : ℕ) (w v : List ℕ) (hit : Bool) (i e n : ℕ) : Type 0 where
+    pub left : Left c w v (stateIn c v)
+    pub slot : HasSlot c v i e
+    pub victim : replace hit (stateOf P c w) .victim ≡ outOf i e (stateIn c v)
+    pub state : replace hit (stateOf P c w) .state ≡ P .view (evictedAt (sideOf i) e (stateIn c v))
+    pub steps : steps (replace hit (stateOf P c w)) ≡ n

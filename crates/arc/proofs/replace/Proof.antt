@@ -1,5 +1,7 @@
 -- `arc::replace` meets its contract. Assumes nothing.
-use Rattle.arc.proofs.Replacing.{replaceLaws}
+use Rattle.common.proofs.Replacing.{puts}
+use Rattle.arc.proofs.Calling.{stages, lawful}
+use Rattle.arc.proofs.Inserting.{replaceLaws}
 use Rattle.arc.proofs.replace.Statement.{statement}
 use Rattle.arc.proofs.replace.Tie as tie
 
@@ -19,7 +21,7 @@ same-length : tie.Need-same-length
 same-length c = search replaceLaws
 
 returns : tie.Need-returns
-returns c = search replaceLaws
+returns c = search (puts _ stages lawful, replaceLaws)
 
 pub replace-spec : {M : Type 1} → statement M
 replace-spec =

@@ -1,28 +1,30 @@
 -- `car::enter` meets its contract. Assumes nothing.
-use Rattle.car.proofs.Inserting.{insertLaws}
+use Rattle.common.proofs.Inserting.{enter-free, enter-full}
+use Rattle.common.proofs.Laws.{enterNeeds}
+use Rattle.car.proofs.Calling.{stages, lawful}
 use Rattle.car.proofs.enter.Statement.{statement}
 use Rattle.car.proofs.enter.Tie as tie
 
 residents-requires : tie.Need-residents-requires
-residents-requires c κs = search insertLaws
+residents-requires c κs = search enterNeeds
 
 enter-end-requires : tie.Need-enter-end-requires
-enter-end-requires c κs = search insertLaws
+enter-end-requires c κs = search enterNeeds
 
 same-length : tie.Need-same-length
-same-length c = search insertLaws
+same-length c = search enterNeeds
 
 returns : tie.Need-returns
-returns c = search insertLaws
+returns c = search (enter-free _ stages lawful, enterNeeds)
 
 replace-requires : tie.Need-replace-requires
-replace-requires c κs = search insertLaws
+replace-requires c κs = search enterNeeds
 
 same-length-2 : tie.Need-same-length-2
-same-length-2 c = search insertLaws
+same-length-2 c = search enterNeeds
 
 returns-2 : tie.Need-returns-2
-returns-2 c = search insertLaws
+returns-2 c = search (enter-full _ stages lawful, enterNeeds)
 
 pub enter-spec : {M : Type 1} → statement M
 enter-spec =

@@ -1,4 +1,6 @@
 -- `car::prepare` meets its contract. Assumes nothing.
+use Rattle.common.proofs.Inserting.{way-stays, way-recent, way-frequent}
+use Rattle.car.proofs.Calling.{stages, lawful}
 use Rattle.car.proofs.Inserting.{prepareLaws}
 use Rattle.car.proofs.prepare.Statement.{statement}
 use Rattle.car.proofs.prepare.Tie as tie
@@ -28,19 +30,19 @@ same-length : tie.Need-same-length
 same-length c = search prepareLaws
 
 returns : tie.Need-returns
-returns c = search prepareLaws
+returns c = search (way-stays _ stages lawful, prepareLaws)
 
 same-length-2 : tie.Need-same-length-2
 same-length-2 c = search prepareLaws
 
 returns-2 : tie.Need-returns-2
-returns-2 c = search prepareLaws
+returns-2 c = search (way-recent _ stages lawful, prepareLaws)
 
 same-length-3 : tie.Need-same-length-3
 same-length-3 c = search prepareLaws
 
 returns-3 : tie.Need-returns-3
-returns-3 c = search prepareLaws
+returns-3 c = search (way-frequent _ stages lawful, prepareLaws)
 
 same-length-4 : tie.Need-same-length-4
 same-length-4 c = search prepareLaws

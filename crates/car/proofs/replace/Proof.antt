@@ -1,4 +1,6 @@
 -- `car::replace` meets its contract. Assumes nothing.
+use Rattle.common.proofs.Replacing.{puts}
+use Rattle.car.proofs.Calling.{stages, lawful}
 use Rattle.car.proofs.Replacing.{replaceLaws}
 use Rattle.car.proofs.replace.Statement.{statement}
 use Rattle.car.proofs.replace.Tie as tie
@@ -16,7 +18,7 @@ same-length : tie.Need-same-length
 same-length c = search replaceLaws
 
 returns : tie.Need-returns
-returns c = search replaceLaws
+returns c = search (puts _ stages lawful, replaceLaws)
 
 pub replace-spec : {M : Type 1} → statement M
 replace-spec =
