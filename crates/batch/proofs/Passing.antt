@@ -12,8 +12,7 @@ use Rattle.area.specs.Area.{capacityOf}
 use Rattle.calls.specs.Policy.{Policy, policyOf, reads}
 use Rattle.calls.specs.Inner.{Good}
 use Rattle.calls.specs.declared.Kind.{Kind}
-use Rattle.calls.specs.declared.Kind.the-variants as kinds
-use Rattle.calls.proofs.Exact.{Exact, arc-exact, car-exact}
+use Rattle.calls.proofs.Exact.{Exact, exact-of}
 use Rattle.calls.proofs.Reading.{reads-none, reads-good, good}
 use Rattle.opening.specs.Opening.{Opens}
 use Rattle.opening.specs.declared.Opened.{Opened}
@@ -22,11 +21,6 @@ use Rattle.batch.specs.Outcomes.{countsIs, ranIs, Finishes, BatchOutcome
 use Rattle.batch.specs.declared.Counts.{Counts}
 use Rattle.batch.specs.declared.Ran.the-variants as ran
 use Rattle.batch.specs.declared.Tally.{Tally}
-
--- ---- by the kind
-pub exact : (k : Kind) → Exact (policyOf k)
-exact kinds.Arc = arc-exact
-exact kinds.Car = car-exact
 
 -- ---- the outcome of a trace that was run
 ran-is : (P : Policy) → Exact P → (c : ℕ) (trace : List ℕ) (lent : Counts) (w v : List ℕ) (r : Tally) → Good P c w → Finishes P c trace w v r
@@ -49,12 +43,12 @@ module _ (k : Kind) (n : ℕ) (o : Opened) (w : List ℕ) (e : n ≡ policyOf k 
   pub opened : (c : ℕ) → o ≡ Cache c → Good (policyOf k) c w
   opened c q =
       let x = opens-as (Cache c) q in
-      subst (λ (j : ℕ). Good (policyOf k) j w) (sym (x .capacity)) (good (policyOf k) (exact k) w (x .words) (x .test))
+      subst (λ (j : ℕ). Good (policyOf k) j w) (sym (x .capacity)) (good (policyOf k) (exact-of k) w (x .words) (x .test))
 
   -- the trace was run
   pub ran-through : (c : ℕ) → o ≡ Cache c → (trace : List ℕ) (lent : Counts) (v : List ℕ) (r : Tally) → Finishes (policyOf k) c trace w v r
       → BatchOutcome (policyOf k) trace lent w v (ranIs (r .ran)) (r .counts)
-  ran-through c q trace lent v r d = ran-is (policyOf k) (exact k) c trace lent w v r (opened c q) d
+  ran-through c q trace lent v r d = ran-is (policyOf k) (exact-of k) c trace lent w v r (opened c q) d
 
   -- refusal 3
   pub refused : o ≡ Refused → (trace : List ℕ) (lent : Counts) → BatchOutcome (policyOf k) trace lent w w (ranIs ran.Refused) lent

@@ -12,10 +12,12 @@ use Rattle.rules.specs.Car as car
 use Rattle.rules.specs.Car.{Car}
 use Rattle.rules.proofs.Closure.{arc-new, car-new}
 use Rattle.area.specs.Area.{capacityOf}
-use Rattle.area.specs.Stored.{stateIn, arcOf, Writes}
+use Rattle.area.specs.Stored.{arcOf, Writes}
 use Rattle.state_check.specs.Check.{stateTest}
 use Rattle.state_check.proofs.State.{arc-sound, car-sound, arc-complete, car-complete}
-use Rattle.calls.specs.Policy.{Policy, arcPolicy, carPolicy, stateOf}
+use Rattle.calls.specs.Policy.{Policy, arcPolicy, carPolicy, policyOf, stateOf}
+use Rattle.calls.specs.declared.Kind.{Kind}
+use Rattle.calls.specs.declared.Kind.the-variants as kinds
 use Rattle.calls.proofs.Capacity.{arc-keeps, car-keeps}
 use Rattle.calls.proofs.Accepting.{is3, arc-accepts, car-accepts}
 
@@ -62,3 +64,8 @@ car-asks q s = refl
 
 pub car-exact : Exact carPolicy
 car-exact = record { sound = λ w words q. car-sound w words q .1; complete = car-complete; new-is = λ c. refl; new-well = car-new; capacity = car-capacity; keeps = car-same; accepts = car-accepts; asks = car-asks }
+
+-- by the kind
+pub exact-of : (k : Kind) → Exact (policyOf k)
+exact-of kinds.Arc = arc-exact
+exact-of kinds.Car = car-exact

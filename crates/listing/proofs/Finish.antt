@@ -1,17 +1,16 @@
 -- What a listing leaves is what the rules say. In order: records one after the other over a lent list; the outcome; any two outcomes are equal. Assumes nothing.
-use mathlib.Core.Path.{_≡_, refl, sym, ap, subst, _∙_}
-use mathlib.Core.Bool.{Bool, true, false, cond}
+use mathlib.Core.Path.{_≡_, refl, sym, ap, _∙_}
+use mathlib.Core.Bool.{Bool, true, false}
 use mathlib.Core.List.{List, [], _∷_, _++_, map}
-use mathlib.Core.Option.{some, none}
 use Prim.Native.Nat.{ℕ, zero, suc, _+_, _<_, _≤_}
 use native.Mathlib.Nat.{not-suc-le-zero, le-of-suc-le-suc}
 use native.Mathlib.Omega.{arith}
 use lib.Dec.{ltb}
-use lib.ListN.{length, getD, take, drop, set, length-map, length-append, length-drop}
+use lib.ListN.{length, getD, take, drop, set, length-map}
 use borrow.Author.Tests.{ltb-false}
 use Rattle.rules.specs.Calls as rules
-use Rattle.rules.specs.Calls.{Ask, Listing, Number}
-use Rattle.rules.specs.Public.{ListingDone, listed, written}
+use Rattle.rules.specs.Calls.{Listing}
+use Rattle.rules.specs.Public.{listed}
 use Rattle.parts.specs.Parts as parts
 use Rattle.area.specs.Area.{capacityOf}
 use Rattle.area.specs.Stored.{Stored, stateIn}
@@ -19,8 +18,7 @@ use Rattle.state_check.specs.Check.{stateTest}
 use Rattle.state_check.proofs.State.{state-writes}
 use Rattle.calls.specs.Policy.{Policy, policyOf, stateOf, reads}
 use Rattle.calls.specs.declared.Kind.{Kind}
-use Rattle.calls.specs.declared.Kind.the-variants as kinds
-use Rattle.calls.proofs.Exact.{Exact, arc-exact, car-exact}
+use Rattle.calls.proofs.Exact.{exact-of}
 use Rattle.listing.specs.Order.{past}
 use Rattle.listing.specs.Steps.{orderIn, recordAt, recordsIn, accepted, planOf, Stands, StepIs}
 use Rattle.listing.specs.Outcome.{recordIs, recordsAre, listedIs, listingDone, ListingOutcome}
@@ -82,10 +80,6 @@ cursor kind w p zero = p .first
 cursor kind w p (suc i) = getD (orderIn kind (capacityOf w) w) (suc i) (past kind (capacityOf w))
 
 -- ---- what a plan says
-exact : (kind : Kind) → Exact (policyOf kind)
-exact kinds.Arc = arc-exact
-exact kinds.Car = car-exact
-
 stored : (kind : Kind) (w : List ℕ) → stateTest (policyOf kind .kind) w ≡ true → Stored (capacityOf w) w
 unfolding stateIn parts.stateOf
 stored kind w q = state-writes (policyOf kind .kind) w q .stored
@@ -109,7 +103,7 @@ module _ (kind : Kind) (w : List ℕ) where
   outcome-by ys true true q z =
       let s = stored kind w q in
       record {
-        is = rw (q, length-map ys recordIs, answer-is (capacityOf w) w s kind (length ys), exact kind .asks (Listing (length ys)) (stateOf (policyOf kind) (capacityOf w) w), listing-is (capacityOf w) w s kind, length-map (map (recordAt (stateIn (capacityOf w) w)) (orderIn kind (capacityOf w) w)) recordIs, length-map (orderIn kind (capacityOf w) w) (recordAt (stateIn (capacityOf w) w)), z) refl;
+        is = rw (q, length-map ys recordIs, answer-is (capacityOf w) w s kind (length ys), exact-of kind .asks (Listing (length ys)) (stateOf (policyOf kind) (capacityOf w) w), listing-is (capacityOf w) w s kind, length-map (map (recordAt (stateIn (capacityOf w) w)) (orderIn kind (capacityOf w) w)) recordIs, length-map (orderIn kind (capacityOf w) w) (recordAt (stateIn (capacityOf w) w)), z) refl;
       }
   outcome-by ys true false q z =
       let s = stored kind w q in
@@ -117,7 +111,7 @@ module _ (kind : Kind) (w : List ℕ) where
       let n : length l ≡ length (orderIn kind (capacityOf w) w) = length-map (orderIn kind (capacityOf w) w) (recordAt (stateIn (capacityOf w) w)) in
       let all : recordsAre (over (length (orderIn kind (capacityOf w) w)) l ys) ≡ recordsAre l ++ drop (length (orderIn kind (capacityOf w) w)) (recordsAre ys) = rw (sym n) (ap recordsAre (over-all l ys) ∙ are-append l (drop (length l) ys) ∙ ap (λ (m : List rules.Record). recordsAre l ++ m) (are-drop (length l) ys)) in
       record {
-        is = rw (q, length-map ys recordIs, answer-is (capacityOf w) w s kind (length ys), exact kind .asks (Listing (length ys)) (stateOf (policyOf kind) (capacityOf w) w), listing-is (capacityOf w) w s kind, length-map l recordIs, n, z, all) refl;
+        is = rw (q, length-map ys recordIs, answer-is (capacityOf w) w s kind (length ys), exact-of kind .asks (Listing (length ys)) (stateOf (policyOf kind) (capacityOf w) w), listing-is (capacityOf w) w s kind, length-map l recordIs, n, z, all) refl;
       }
   outcome-by ys false b q z = record { is = rw q refl }
 

@@ -5,33 +5,19 @@ use Prim.Native.Nat.{ℕ}
 use borrow.Author.Needs.{needs}
 use Rattle.trace.specs.declared.Operation.{Operation}
 use Rattle.trace.specs.declared.Operation.the-variants as operation
-use Rattle.rules.specs.Calls.{Call, Get, Insert, Remove, Clear, Ask, Question, Peek, Answer, Cleared, asked}
+use Rattle.rules.specs.Calls.{Call, Get, Insert, Remove, Clear, Ask, Question, Peek, Answer, Cleared}
 use Rattle.rules.specs.Batch.{callOf}
-use Rattle.rules.specs.Arc as arc
-use Rattle.rules.specs.Car as car
 use Rattle.answers.specs.Answers.{gotIs, seenIs, goneIs, insertedIs, replyIs}
 use Rattle.answers.specs.declared.Got.{Got}
 use Rattle.answers.specs.declared.Seen.{Seen}
 use Rattle.answers.specs.declared.Gone.{Gone}
 use Rattle.answers.specs.declared.Inserted.{Inserted}
-use Rattle.answers.specs.declared.Reply.{Reply}
 use Rattle.answers.specs.declared.Reply.the-variants as reply
 use Rattle.calls.specs.Policy.{Policy, arcPolicy, carPolicy, policyOf, stateOf}
 use Rattle.calls.specs.Inner.{Good, Did, Says}
 use Rattle.calls.specs.declared.Kind.{Kind}
 use Rattle.calls.specs.declared.Kind.the-variants as kinds
-
--- a question changes nothing
-abbrev Asks : Policy → Type 0
-Asks P = (q : Question) (s : P .State) → P .does (Ask q) s .state ≡ s
-
-arc-asks : Asks arcPolicy
-unfolding arc.does asked
-arc-asks q s = refl
-
-car-asks : Asks carPolicy
-unfolding car.does asked
-car-asks q s = refl
+use Rattle.calls.proofs.Exact.{exact-of}
 
 module _ (P : Policy) (c : ℕ) (w v : List ℕ) (op : Operation) where
   -- ---- the call that was made is the operation's
@@ -50,17 +36,13 @@ module _ (P : Policy) (c : ℕ) (w v : List ℕ) (op : Operation) where
   pub did-clear : op ≡ operation.Clear → Did P Clear c w v Cleared → Did P (callOf op) c w v (replyIs reply.Cleared)
   did-clear e d = made Clear Cleared (rw e refl) d
 
--- ---- a peek leaves the area
-kind-asks : (k : Kind) → Asks (policyOf k)
-kind-asks kinds.Arc = arc-asks
-kind-asks kinds.Car = car-asks
-
+-- ---- a peek leaves the area: a question changes nothing
 pub peeked : (k : Kind) (c : ℕ) (w : List ℕ) (op : Operation) (x : ℕ) (r : Seen) → op ≡ operation.Peek x → Good (policyOf k) c w → Says (policyOf k) (Peek x) c w (seenIs r)
     → Did (policyOf k) (callOf op) c w w (replyIs (reply.Seen r))
 peeked k c w op x r e g s =
     let P : Policy = policyOf k in
     made P c w w op (Ask (Peek x)) (seenIs r) (rw e refl)
-    (record { good = g; state = sym (kind-asks k (Peek x) (stateOf P c w)); answer = s .answer; size = refl; rest = refl })
+    (record { good = g; state = sym (exact-of k .asks (Peek x) (stateOf P c w)); answer = s .answer; size = refl; rest = refl })
 
 -- ---- by the kind
 module _ (k : Kind) (c : ℕ) (w : List ℕ) where

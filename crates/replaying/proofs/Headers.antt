@@ -9,7 +9,7 @@ use native.Mathlib.Omega.{arith}
 use mir.Val.{Fits}
 use mir.Syntax.{w64}
 use lib.Dec.{ltb, eqb}
-use lib.ListN.{length, getD, drop, take}
+use lib.ListN.{length, getD, drop}
 use borrow.Author.Needs.{needs}
 use borrow.Author.Tests.{lt-ltb, le-ltb, ltb-false, ne-eqb}
 use borrow.Rule.Slice.PartAt.{part-to-end}
@@ -21,7 +21,6 @@ use Rattle.numbers.specs.Reading.{frameOf}
 use Rattle.numbers.proofs.Bounds.{frame-bounds}
 use Rattle.numbers.proofs.Prefix.{frame-prefix}
 use Rattle.trace.proofs.Arms.{part}
-use Rattle.rules.specs.State.{maxCapacity}
 use Rattle.rules.specs.Calls.{Stopped}
 use Rattle.rules.specs.Batch.{batch}
 use Rattle.rules.specs.Car.{new}
@@ -33,7 +32,7 @@ use Rattle.fresh.specs.declared.Made.the-variants as made
 use Rattle.calls.specs.declared.Kind.{Kind}
 use Rattle.calls.specs.declared.Kind.the-variants.{Arc, Car}
 use Rattle.calls.specs.Policy.{Policy, policyOf}
-use Rattle.calls.proofs.Exact.{Exact, arc-exact, car-exact}
+use Rattle.calls.proofs.Exact.{exact-of}
 use Rattle.replaying.specs.declared.Header.{Header}
 use Rattle.replaying.specs.declared.Header.the-variants.{Cache, Stop}
 use Rattle.replaying.specs.Pending.{toldAfter}
@@ -174,18 +173,14 @@ header-unknown [] n p q = absurd (n refl)
 header-unknown (b ∷ bs) n p q = simp (ne-eqb b 1 p, ne-eqb b 2 q)
 
 -- ---- an empty cache
-exact : (k : Kind) → Exact (policyOf k)
-exact Arc = arc-exact
-exact Car = car-exact
-
 fresh-by : (k : Kind) (c : ℕ) (w v : List ℕ) → c ≤ maxReplayed → Empty (policyOf k .kind) c w v → Fresh k c v
 unfolding new
 fresh-by k c w v small e =
     let r = e .writes in
     let P : Policy = policyOf k in
-    let q = ap (P .view) (r .reads) ∙ exact k .new-is c in
+    let q = ap (P .view) (r .reads) ∙ exact-of k .new-is c in
     record {
-      good = record { stored = r .stored; kind = r .kind; well = subst (P .WellFormed) (sym q) (exact k .new-well c (omega arith)) };
+      good = record { stored = r .stored; kind = r .kind; well = subst (P .WellFormed) (sym q) (exact-of k .new-well c (omega arith)) };
       new = q;
     }
 
