@@ -21,5 +21,4 @@ pub mod Ends
 pub mod Making
 pub mod Answers
 pub mod Sizes
-pub mod Updating
 pub mod Ranging
