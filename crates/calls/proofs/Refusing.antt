@@ -44,14 +44,19 @@ module _ (P : Policy) where
         by none q = q
         by (some s) q = let t = reads-is P w s q .0 in absurd (n (stateIn (capacityOf w) w) (state-writes (P .kind) w t) (e .sound w words t))
 
-    -- THE THEOREMS, of calls and of questions
-    pub refused-exactly : (k : Call) (v : List ℕ) (a : Answer) → Outcome P k w v a → Exactly w a
-    unfolding called
-    refused-exactly k v a o = record { only = λ q. none-writes (by (reads P w) refl q); always = λ words n. let q : done a (reads P v) ≡ done (Refused 3) none = o .is ∙ rw (writes-none words n) refl in ap (λ d. d .answer) q }
+    -- whatever is answered: 3 where the words read as nothing, and something else where they read as a state
+    pub exactly : (a : Answer) → (reads P w ≡ none → a ≡ Refused 3) → ((s : P .State) → reads P w ≡ some s → a ≡ Refused 3 → ⊥) → Exactly w a
+    exactly a refused answered = record { only = λ q. none-writes (by (reads P w) refl q); always = λ words n. refused (writes-none words n) }
       where
         by : (x : Option (P .State)) → reads P w ≡ x → a ≡ Refused 3 → reads P w ≡ none
         by none r q = r
-        by (some s) r q = absurd (false≢true (sym (e .accepts k s) ∙ ap is3 (sym (outcome-is P k w v a s o r .0) ∙ q)))
+        by (some s) r q = absurd (answered s r q)
+
+    -- THE THEOREMS, of calls and of questions (of batches and of listings: crates batch and listing)
+    pub refused-exactly : (k : Call) (v : List ℕ) (a : Answer) → Outcome P k w v a → Exactly w a
+    unfolding called
+    refused-exactly k v a o =
+        exactly a (λ r. let q : done a (reads P v) ≡ done (Refused 3) none = o .is ∙ rw r refl in ap (λ d. d .answer) q) (λ s r q. false≢true (sym (e .accepts k s) ∙ ap is3 (sym (outcome-is P k w v a s o r .0) ∙ q)))
 
     pub told-exactly : (q : Question) (a : Answer) → Told P q w a → Exactly w a
     told-exactly q a t = refused-exactly _ w a (told-outcome P e q w a t)

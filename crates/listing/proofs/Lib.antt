@@ -3,5 +3,6 @@ pub mod Rising
 pub mod Joined
 pub mod Slots
 pub mod Records
+pub mod Refusing
 pub mod Laws
 pub mod Finish
