@@ -1,17 +1,14 @@
 -- Slots, cells and places of parts that hold a cache. In order: bounds; no slot in two lists, no cell in two; a slot that leaves; places and their pages; what a held place is. Assumes nothing.
-use mathlib.Core.Path.{_≡_, refl, sym, ap, _∙_}
-use mathlib.Core.Bool.{Bool, true, false}
+use mathlib.Core.Path.{_≡_, sym, ap, _∙_}
 use mathlib.Core.Logic.{_⊎_, inl, inr, ⊎-elim}
 use mathlib.Core.List.{List, [], _++_}
 use Prim.Native.Nat.{ℕ, _+_, _-_, _*_, _<_, _≤_}
 use native.Mathlib.Omega.{arith}
 use lib.ListN.{length, length-append}
-use lib.Dec.{ltb}
-use borrow.Author.Tests.{ltb-true, ltb-false}
 use Rattle.rules.specs.State.{Side, first, second}
 use Rattle.rings.specs.Members.{Mem, Fresh, Distinct, without}
 use Rattle.rings.specs.Rings.{outOf, together}
-use Rattle.rings.proofs.Members.{same-or-other, not-mem, below-mem}
+use Rattle.rings.proofs.Members.{same-or-other, low-or-high, not-mem, below-mem}
 use Rattle.rings.proofs.Ring.{ring-distinct}
 use Rattle.rings.proofs.Family.{changed-here, changed-other, rings-apart, together-covers}
 use Rattle.residents.specs.Residents.{linksOf, total}
@@ -25,13 +22,6 @@ use Rattle.parts.specs.Parts.{Parts, ghostsOf, ghostPlace, HeldIn, DeadI
 use Rattle.parts.proofs.Counts.{without-absent}
 use Rattle.parts.proofs.Sides.{place-high, place-one}
 use Rattle.parts.proofs.HoldsAs.{HoldsAs}
-
-low-or-high : (x b : ℕ) → (x < b) ⊎ (b ≤ x)
-low-or-high x b = go (ltb x b) refl
-  where
-    go : (t : Bool) → ltb x b ≡ t → (x < b) ⊎ (b ≤ x)
-    go true q = inl (ltb-true x b q)
-    go false q = inr (ltb-false x b q)
 
 -- what a held place is: a slot of T1 or T2, or a cell of a ghost list
 pub data Place (c : ℕ) (L : ℕ → List ℕ) (live : Side → List ℕ) (x : ℕ) : Type 0 where

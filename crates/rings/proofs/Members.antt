@@ -8,8 +8,8 @@ use Prim.Native.Nat.{ℕ, zero, suc, _+_, _-_, _<_, _≤_}
 use native.Mathlib.Omega.{arith}
 use native.Mathlib.Nat.{not-suc-le-zero}
 use lib.ListN.{length}
-use lib.Dec.{eqb}
-use borrow.Author.Tests.{eqb-true, eqb-false, eq-eqb, ne-eqb}
+use lib.Dec.{eqb, ltb}
+use borrow.Author.Tests.{eqb-true, eqb-false, ltb-true, ltb-false, eq-eqb, ne-eqb}
 use Rattle.rings.specs.Members.{Mem, Fresh, Below, Distinct, without, insertBefore, inPlaceOf, upFrom, lastOf, withoutLast}
 
 pub same-or-other : (a b : ℕ) → (a ≡ b) ⊎ (a ≡ b → ⊥)
@@ -18,6 +18,13 @@ same-or-other a b = go (eqb a b) refl
     go : (t : Bool) → eqb a b ≡ t → (a ≡ b) ⊎ (a ≡ b → ⊥)
     go true q = inl (eqb-true a b q)
     go false q = inr (eqb-false a b q)
+
+pub low-or-high : (x b : ℕ) → (x < b) ⊎ (b ≤ x)
+low-or-high x b = go (ltb x b) refl
+  where
+    go : (t : Bool) → ltb x b ≡ t → (x < b) ⊎ (b ≤ x)
+    go true q = inl (ltb-true x b q)
+    go false q = inr (ltb-false x b q)
 
 -- members and what is none
 pub not-mem : (e : ℕ) (xs : List ℕ) → Fresh e xs → Mem e xs → ⊥

@@ -1,19 +1,17 @@
 -- The places of parts whose lists have passed. In order: the dead places, by their test; every place that has to be held; the others are free slots and spare cells.
 -- Assumes nothing.
 use mathlib.Core.Path.{_≡_, refl, sym, _∙_}
-use mathlib.Core.Bool.{Bool, true, false}
+use mathlib.Core.Bool.{true}
 use mathlib.Core.Logic.{_⊎_, inl, inr, ⊎-elim}
 use mathlib.Core.List.{List, [], _∷_, _++_, map}
 use Prim.Native.Nat.{ℕ, _+_, _-_, _*_, _<_, _≤_}
 use native.Mathlib.Omega.{arith}
 use native.Mathlib.Nat.{zero-add}
 use lib.ListN.{length, length-append, length-map}
-use lib.Dec.{ltb}
-use borrow.Author.Tests.{ltb-true, ltb-false}
 use Rattle.rules.specs.State.{Side, first, second}
 use Rattle.rings.specs.Members.{Mem, Fresh, Distinct}
 use Rattle.rings.specs.Rings.{together}
-use Rattle.rings.proofs.Members.{same-or-other, not-mem, fresh, mem-append, mem-left, mem-right, distinct-append}
+use Rattle.rings.proofs.Members.{same-or-other, low-or-high, not-mem, fresh, mem-append, mem-left, mem-right, distinct-append}
 use Rattle.rings.proofs.Family.{together-covers}
 use Rattle.residents.specs.Residents.{linksOf, total}
 use Rattle.ghosts.proofs.Laws.{live-or-spare}
@@ -59,13 +57,6 @@ slot-every c p i x h k = mem-left x (slotsOf c p 0 ++ slotsOf c p 1) (placesAt c
 pub ghost-every : (c : ℕ) (p : Parts) (i : Side) (g : ℕ) → Mem g (liveIn c p i) → Mem (ghostPlace i c g) (every c p)
 ghost-every c p first g k = mem-right (ghostPlace first c g) (slotsOf c p 0 ++ slotsOf c p 1) (placesAt c p first ++ placesAt c p second) (mem-left (ghostPlace first c g) (placesAt c p first) (placesAt c p second) (map-mem (ghostPlace first c) g (liveIn c p first) k))
 ghost-every c p second g k = mem-right (ghostPlace second c g) (slotsOf c p 0 ++ slotsOf c p 1) (placesAt c p first ++ placesAt c p second) (mem-right (ghostPlace second c g) (placesAt c p first) (placesAt c p second) (map-mem (ghostPlace second c) g (liveIn c p second) k))
-
-low-or-high : (x b : ℕ) → (x < b) ⊎ (b ≤ x)
-low-or-high x b = go (ltb x b) refl
-  where
-    go : (t : Bool) → ltb x b ≡ t → (x < b) ⊎ (b ≤ x)
-    go true q = inl (ltb-true x b q)
-    go false q = inr (ltb-false x b q)
 
 module _ (c : ℕ) (p : Parts) (a : AreLists c p) where
   -- as many as the counts say
