@@ -3,6 +3,7 @@
 -- Below them: Putting, Taking, Renaming and Making say what each change asks and does; Rising and Part are about lists and words; Needs, Dividing
 -- and Finding answer the needs of the code. Assumes nothing.
 pub mod Answers
+pub mod Belonging
 pub mod Buckets
 pub mod Cases
 pub mod Counts

@@ -15,6 +15,7 @@ ghost use lib.Dec.{eqb};
 ghost use Rattle.cells.specs.Cells.{In, nextOf, prevOf};
 ghost use Rattle.rings.specs.Rings.{CanDetach, CanReplace};
 ghost use Rattle.lookup.specs.Buckets.{bucketOf, inverseOf, bucketsOf};
+ghost use Rattle.lookup.specs.Dividing.{Divides, DivisorOf, Folded};
 ghost use Rattle.lookup.specs.Part.{pageOf, linksOf, Room};
 ghost use Rattle.lookup.specs.Lookup.{findOf, look, placeOr, CanFind};
 ghost use Rattle.lookup.specs.Changes.{unlinked, handedOver, deadened, cleared, blank, putIn, taken, renamed, made, CanPut, CanTake, CanRename, CanReach, CanBlank};
@@ -48,6 +49,56 @@ pub fn bucket_of(k: usize, inverse: usize, p: u64) -> usize
         }
     }
     x % k
+}
+
+// A number of buckets, and what a page's belonging is told by without a division: what 2^22 and 2^44 are more than multiples of k, and how often k goes into 2^40.
+pub struct Divisor {
+    pub k: usize,
+    pub near: usize,
+    pub far: usize,
+    pub part: usize,
+}
+
+pub fn divisor_of(k: usize) -> Divisor
+    requires { ⌜ (0 < k) × (k ≤ 4096) ⌝ }
+    ensures { λ r. ⌜ DivisorOf k r ⌝ }
+{
+    let near = 4194304 % k;
+    let far = 17592186044416 % k;
+    let part = 1099511627776 / k;
+    Divisor {
+        k: k,
+        near: near,
+        far: far,
+        part: part,
+    }
+}
+
+// A smaller number with the bucket of x: x in three digits of 22 bits, with `near` for 2^22 and `far` for 2^44.
+fn fold(d: Divisor, x: usize) -> usize
+    requires { ⌜ Divides d ⌝ }
+    ensures { λ r. ⌜ Folded d x r ⌝ }
+{
+    let upper = x / 4194304;
+    let a = upper / 4194304 * d.far;
+    let b = upper % 4194304 * d.near;
+    a + b + x % 4194304
+}
+
+// Whether the page p belongs to bucket b. No remainder is computed: a guessed quotient q is held against q * k + b. It takes the same steps for any page; only
+// where the guess is wrong, which it is for the fewest pages of a bucket, there is a division.
+pub fn belongs(d: Divisor, b: usize, p: u64) -> bool
+    requires { ⌜ Divides d × (b < d .k) ⌝ }
+    ensures { λ r. ⌜ r ≡ eqb (bucketOf (d .k) p) b ⌝ }
+{
+    let x = p as usize;
+    let y = fold(d, x);
+    let q = y * d.part / 1099511627776;
+    let t = q * d.k;
+    if t + b == y {
+        return true;
+    }
+    x % d.k == b
 }
 
 // The hint for k buckets.
