@@ -25,7 +25,7 @@ use Rattle.lookup_check.specs.declared.Rest.the-variants.{Left, Bad}
 use Rattle.lookup_check.specs.Check.{leastAfter, suitsTest, closing, walkFrom, walkOf, walkOn, walksOf, usedUp, lookupTest, Holding}
 
 -- the test of a place
-least-place : (w : List ℕ) (m x : ℕ) → x < m → leastAfter w m x ≡ suc (pageOf w x)
+pub least-place : (w : List ℕ) (m x : ℕ) → x < m → leastAfter w m x ≡ suc (pageOf w x)
 unfolding leastAfter
 least-place w m x h = simp (lt-ltb x m h)
 
@@ -71,7 +71,7 @@ module _ (w : List ℕ) (m k : ℕ) (P : ℕ → List ℕ) (t : Table w m k P) w
       ap (walkOn w m k n) (walks-complete live n (rest + length (P n)) (omega arith) (omega arith)) ∙ walk-complete n (rest + length (P n)) rest h refl
 
 -- SOUND: what the walk of bucket b from a on has passed, where it ends well
-record Passed (w : List ℕ) (m k b left rest a : ℕ) : Type 0 where
+pub record Passed (w : List ℕ) (m k b left rest a : ℕ) : Type 0 where
   pub places : List ℕ
   pub links : Links (linksOf m w) a places (m + b)
   pub below : Below m places
@@ -91,7 +91,7 @@ end-sound w m k b left rest a = go (eqb (nextOf (linksOf m w) a) (m + b)) (eqb (
     go true false q p e = no-walk e
     go false u q p e = no-walk e
 
-passed : (w : List ℕ) (m k b left rest a : ℕ) → walkFrom w m k b left a ≡ Left rest → Passed w m k b left rest a
+pub passed : (w : List ℕ) (m k b left rest a : ℕ) → walkFrom w m k b left a ≡ Left rest → Passed w m k b left rest a
 passed w m k b zero rest a = go (ltb (nextOf (linksOf m w) a) m)
   where
     go : (t : Bool) → cond t Bad (closing (linksOf m w) (m + b) 0 a) ≡ Left rest → Passed w m k b 0 rest a

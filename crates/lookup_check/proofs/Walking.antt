@@ -1,13 +1,12 @@
--- The laws that answer the needs of `walk_on`, `walk` and `check`. The walk of bucket b has come to cur, after which x stands. Assumes nothing.
+-- The laws that answer the needs of `walk_on` and `walk`. The walk of bucket b has come to cur, after which x stands. Assumes nothing.
 use mathlib.Core.Path.{_≡_, refl, sym, ap, _∙_}
 use mathlib.Core.Bool.{Bool, true, false, cond}
 use mathlib.Core.Logic.{_⊎_, ⊎-elim}
 use mathlib.Core.List.{List}
-use Prim.Native.Nat.{ℕ, zero, suc, _+_, _-_, _^_, _<_, _≤_}
+use Prim.Native.Nat.{ℕ, suc, _+_, _-_, _^_, _<_, _≤_}
 use native.Mathlib.Omega.{arith}
-use native.Mathlib.Numerals.{add-one}
 use lib.ListN.{length}
-use lib.Dec.{eqb, ltb}
+use lib.Dec.{eqb}
 use mir.Val.{Fits}
 use mir.Syntax.{w64}
 use borrow.Author.Needs.{needs}
@@ -15,12 +14,16 @@ use borrow.Author.Tests.{eq-eqb, ne-eqb, lt-ltb, le-ltb, le-leb, lt-leb}
 use Rattle.cells.specs.Cells.{nextOf, prevOf}
 use Rattle.cells.proofs.Laws.{in-cells}
 use Rattle.rings.proofs.Members.{same-or-other}
+use Rattle.lookup.specs.declared.Divisor.{Divisor}
 use Rattle.lookup.specs.Buckets.{bucketOf}
-use Rattle.lookup.specs.Part.{pageOf, linksOf, Room}
+use Rattle.lookup.specs.Dividing.{Divides}
+use Rattle.lookup.specs.Part.{pageOf, linksOf}
 use Rattle.lookup.specs.Changes.{CanReach}
 use Rattle.lookup_check.specs.declared.Rest.{Rest}
 use Rattle.lookup_check.specs.declared.Rest.the-variants.{Left, Bad}
-use Rattle.lookup_check.specs.Check.{leastAfter, suitsTest, closing, walkFrom, walkOf, walkOn, walksOf, usedUp, lookupTest, CanWalk, CanGoOn}
+use Rattle.lookup_check.specs.Check.{leastAfter, suitsTest, closing, walkFrom, walkOf, CanWalk, CanPass, CanGoOn}
+use Rattle.lookup_check.proofs.Steps.{walk-over, walk-step, walk-last}
+use Rattle.lookup_check.proofs.Ends.{last-closes, last-strays}
 
 -- the test of a place x: its bucket, and its page above that of cur, where that is a place
 suited : (w : List ℕ) (m k b cur x : ℕ) → eqb (bucketOf k (pageOf w x)) b ≡ true → leastAfter w m cur ≤ pageOf w x → suitsTest w m k b cur x ≡ true
@@ -47,39 +50,26 @@ next-least : (w : List ℕ) (m cur x : ℕ) → cur < m → pageOf w cur < pageO
 unfolding leastAfter
 next-least w m cur x l h = rw (lt-ltb cur m l) h
 
-pub belongs-is : (k b p h : ℕ) → h ≡ bucketOf k p → eqb h b ≡ eqb (bucketOf k p) b
-belongs-is k b p h q = ap (λ (n : ℕ). eqb n b) q
-
 -- what the walk asks
-pub walk-root : (w : List ℕ) (m k b : ℕ) → CanWalk w m k b → CanReach w m (m + b)
-walk-root w m k b can = let h : b < k = can .bucket in record { pages = can .room .pages; cell = in-cells (linksOf m w) (m + k) (m + b) (can .room .links) (omega arith) }
+pub walk-root : (w : List ℕ) (m : ℕ) (d : Divisor) (b : ℕ) → CanWalk w m d b → CanReach w m (m + b)
+walk-root w m d b can = let h : b < d .k = can .bucket in record { pages = can .room .pages; cell = in-cells (linksOf m w) (m + d .k) (m + b) (can .room .links) (omega arith) }
 
-pub walk-in : (w : List ℕ) (m k b x : ℕ) → CanWalk w m k b → x < m → CanReach w m x
-walk-in w m k b x can l = record { pages = can .room .pages; cell = in-cells (linksOf m w) (m + k) x (can .room .links) (omega arith) }
+pub walk-in : (w : List ℕ) (m : ℕ) (d : Divisor) (b x : ℕ) → CanWalk w m d b → x < m → CanReach w m x
+walk-in w m d b x can l = record { pages = can .room .pages; cell = in-cells (linksOf m w) (m + d .k) x (can .room .links) (omega arith) }
 
-pub walk-page : (w : List ℕ) (m k b x : ℕ) → CanWalk w m k b → x < m → x < length w
-walk-page w m k b x can l = let h : m ≤ length w = can .room .pages in omega arith
+pub walk-page : (w : List ℕ) (m : ℕ) (d : Divisor) (b x : ℕ) → CanWalk w m d b → x < m → x < length w
+walk-page w m d b x can l = let h : m ≤ length w = can .room .pages in omega arith
 
-pub walk-some : (w : List ℕ) (m k b : ℕ) → CanWalk w m k b → 0 < k
-walk-some w m k b can = can .room .some
+pub walk-belong : (w : List ℕ) (m : ℕ) (d : Divisor) (b : ℕ) → CanWalk w m d b → Divides d × (b < d .k)
+walk-belong w m d b can = (can .divides, can .bucket)
 
-pub walk-fits : (w : List ℕ) (m k b : ℕ) → CanWalk w m k b → Fits w64 (m + b)
-walk-fits w m k b can = let h : b < k = can .bucket in let l : m + k < 2 ^ 64 = can .room .fits in omega arith
+pub walk-fits : (w : List ℕ) (m : ℕ) (d : Divisor) (b : ℕ) → CanWalk w m d b → Fits w64 (m + b)
+walk-fits w m d b can = let h : b < d .k = can .bucket in let l : m + d .k < 2 ^ 64 = can .room .fits in omega arith
 
 -- THE LOOP of `walk_on`, and the first step of `walk`: `whole` is what the whole walk gives
 pub record Walked (w : List ℕ) (m k b : ℕ) (whole : Rest) (left cur x : ℕ) : Type 0 where
   pub after : x ≡ nextOf (linksOf m w) cur
   pub same : walkFrom w m k b left cur ≡ whole
-
-walk-over : (w : List ℕ) (m k b left a : ℕ) → left ≡ 0 → nextOf (linksOf m w) a < m → walkFrom w m k b left a ≡ Bad
-walk-over w m k b left a q l = rw q (simp (lt-ltb (nextOf (linksOf m w) a) m l))
-
-walk-step : (w : List ℕ) (m k b left rest a : ℕ) → left ≡ suc rest → nextOf (linksOf m w) a < m → walkFrom w m k b left a ≡ cond (eqb (prevOf (linksOf m w) (nextOf (linksOf m w) a)) a) (cond (suitsTest w m k b a (nextOf (linksOf m w) a)) (walkFrom w m k b rest (nextOf (linksOf m w) a)) Bad) Bad
-walk-step w m k b left rest a q l = rw q (simp (lt-ltb (nextOf (linksOf m w) a) m l))
-
-walk-last : (w : List ℕ) (m k b left a : ℕ) → m ≤ nextOf (linksOf m w) a → walkFrom w m k b left a ≡ closing (linksOf m w) (m + b) left a
-walk-last w m k b zero a l = simp (le-ltb (nextOf (linksOf m w) a) m l)
-walk-last w m k b (suc left) a l = simp (le-ltb (nextOf (linksOf m w) a) m l)
 
 module _ (w : List ℕ) (m k b : ℕ) (whole : Rest) (left cur x : ℕ) (g : Walked w m k b whole left cur x) where
   pub walk-full : x < m → left ≡ 0 → Bad ≡ whole
@@ -110,18 +100,30 @@ module _ (w : List ℕ) (m k b : ℕ) (whole : Rest) (left cur x : ℕ) (g : Wal
   unfolding closing
   walk-closed y l e q d = sym (simp (eq-eqb (nextOf (linksOf m w) cur) (m + b) (rw (g .after) at e), eq-eqb (prevOf (linksOf m w) (m + b)) cur (rw q at d))) ∙ last l
 
--- the loop of `walk_on`: cur is a place, and p its page
-pub record WalkedOn (w : List ℕ) (m k b : ℕ) (whole : Rest) (left cur p x : ℕ) : Type 0 where
+-- the loop of `walk_on`: cur is a place, not the last, and p its page
+pub record WalkedOn (w : List ℕ) (m k b z : ℕ) (whole : Rest) (left cur p x : ℕ) : Type 0 where
   pub walked : Walked w m k b whole left cur x
   pub place : cur < m
   pub page : p ≡ pageOf w cur
+  pub last : z ≡ prevOf (linksOf m w) (m + b)
+  pub other : cur ≡ z → ⊥
 
-pub on-start : (w : List ℕ) (m k b most a p x : ℕ) → CanGoOn w m k b a → p ≡ pageOf w a → x ≡ nextOf (linksOf m w) a → WalkedOn w m k b (walkFrom w m k b most a) most a p x
-on-start w m k b most a p x can e q = record { walked = record { after = q; same = refl }; place = can .place; page = e }
+pub on-walk : (w : List ℕ) (m : ℕ) (d : Divisor) (b z a : ℕ) → CanGoOn w m d b z a → CanWalk w m d b
+on-walk w m d b z a can = can .walk
 
-module _ (w : List ℕ) (m k b : ℕ) (whole : Rest) (left cur p x : ℕ) (g : WalkedOn w m k b whole left cur p x) where
+pub on-place : (w : List ℕ) (m : ℕ) (d : Divisor) (b z a : ℕ) → CanGoOn w m d b z a → a < m
+on-place w m d b z a can = can .place
+
+pub on-start : (w : List ℕ) (m : ℕ) (d : Divisor) (b z most a p x : ℕ) → CanGoOn w m d b z a → p ≡ pageOf w a → x ≡ nextOf (linksOf m w) a → WalkedOn w m (d .k) b z (walkFrom w m (d .k) b most a) most a p x
+on-start w m d b z most a p x can e q = record { walked = record { after = q; same = refl }; place = can .place; page = e; last = can .last; other = can .other }
+
+module _ (w : List ℕ) (m k b z : ℕ) (whole : Rest) (left cur p x : ℕ) (g : WalkedOn w m k b z whole left cur p x) where
   pub on-walked : Walked w m k b whole left cur x
   on-walked = g .walked
+
+  pub on-ends : m ≤ x → Bad ≡ whole
+  on-ends l =
+      ⊎-elim (λ e. walk-unclosed w m k b whole left cur x (g .walked) _ l e refl (λ i. g .other (sym i ∙ sym (g .last)))) (λ e. walk-astray w m k b whole left cur x (g .walked) l e) (same-or-other x (m + b))
 
   module _ (y q : ℕ) (l : x < m) (n : left ≡ 0 → ⊥) (v : y ≡ prevOf (linksOf m w) x) (e : y ≡ cur) (d : q ≡ pageOf w x) where
     pub on-falls : q ≤ p → Bad ≡ whole
@@ -129,17 +131,22 @@ module _ (w : List ℕ) (m k b : ℕ) (whole : Rest) (left cur p x : ℕ) (g : W
 
     module _ (t : Bool) (h : p < q) (i : t ≡ eqb (bucketOf k q) b) where
       pub on-strange : t ≡ false → Bad ≡ whole
-      on-strange z = sym (rw (strange w m k b cur x (rw d at (sym i ∙ z))) refl) ∙ walk-linked w m k b whole left cur x (g .walked) y l n v e
+      on-strange o = sym (rw (strange w m k b cur x (rw d at (sym i ∙ o))) refl) ∙ walk-linked w m k b whole left cur x (g .walked) y l n v e
 
-      pub on-turn : t ≡ true → (j : ℕ) → j ≡ nextOf (linksOf m w) x → WalkedOn w m k b whole (left - 1) x q j
-      on-turn z j o =
-          record {
-            walked = record { after = o; same = sym (rw (suited w m k b cur x (rw d at (sym i ∙ z)) (next-least w m cur x (g .place) (rw (g .page, d) at h))) refl) ∙ walk-linked w m k b whole left cur x (g .walked) y l n v e };
-            place = l;
-            page = d;
-          }
+      module _ (o : t ≡ true) (j : ℕ) (u : j ≡ nextOf (linksOf m w) x) where
+        onward : walkFrom w m k b (left - 1) x ≡ whole
+        onward = sym (rw (suited w m k b cur x (rw d at (sym i ∙ o)) (next-least w m cur x (g .place) (rw (g .page, d) at h))) refl) ∙ walk-linked w m k b whole left cur x (g .walked) y l n v e
 
--- the first step of `walk`
+        pub on-closed : x ≡ z → j ≡ m + b → Left (left - 1) ≡ whole
+        on-closed f c = sym (last-closes w m k b (left - 1) x l (sym (f ∙ g .last)) (sym u ∙ c)) ∙ onward
+
+        pub on-strays : x ≡ z → (j ≡ m + b → ⊥) → Bad ≡ whole
+        on-strays f c = sym (last-strays w m k b (left - 1) x l (sym (f ∙ g .last)) (λ r. c (u ∙ r))) ∙ onward
+
+        pub on-turn : (x ≡ z → ⊥) → WalkedOn w m k b z whole (left - 1) x q j
+        on-turn f = record { walked = record { after = u; same = onward }; place = l; page = d; last = g .last; other = f }
+
+-- the first step of `walk`: x stands first
 pub first-walked : (w : List ℕ) (m k b most x : ℕ) → x ≡ nextOf (linksOf m w) (m + b) → Walked w m k b (walkOf w m k b most) most (m + b) x
 unfolding walkOf
 first-walked w m k b most x q = record { after = q; same = refl }
@@ -151,62 +158,49 @@ module _ (w : List ℕ) (m k b most x : ℕ) (q : x ≡ nextOf (linksOf m w) (m 
   pub first-astray : m ≤ x → (x ≡ m + b → ⊥) → Bad ≡ walkOf w m k b most
   first-astray l e = walk-astray w m k b _ most (m + b) x (first-walked w m k b most x q) l e
 
-  module _ (y : ℕ) where
-    pub first-unlinked : x < m → (most ≡ 0 → ⊥) → y ≡ prevOf (linksOf m w) x → (y ≡ m + b → ⊥) → Bad ≡ walkOf w m k b most
-    first-unlinked l n v e = walk-unlinked w m k b _ most (m + b) x (first-walked w m k b most x q) y l n v e
+  first-unclosed : m ≤ x → x ≡ m + b → (prevOf (linksOf m w) (m + b) ≡ m + b → ⊥) → Bad ≡ walkOf w m k b most
+  first-unclosed l e d = walk-unclosed w m k b _ most (m + b) x (first-walked w m k b most x q) _ l e refl d
 
-    pub first-unclosed : m ≤ x → x ≡ m + b → y ≡ prevOf (linksOf m w) (m + b) → (y ≡ m + b → ⊥) → Bad ≡ walkOf w m k b most
-    first-unclosed l e v d = walk-unclosed w m k b _ most (m + b) x (first-walked w m k b most x q) y l e v d
+  pub first-closed : m ≤ x → x ≡ m + b → prevOf (linksOf m w) (m + b) ≡ m + b → Left most ≡ walkOf w m k b most
+  first-closed l e d = walk-closed w m k b _ most (m + b) x (first-walked w m k b most x q) _ l e refl d
 
-    pub first-closed : m ≤ x → x ≡ m + b → y ≡ prevOf (linksOf m w) (m + b) → y ≡ m + b → Left most ≡ walkOf w m k b most
-    first-closed l e v d = walk-closed w m k b _ most (m + b) x (first-walked w m k b most x q) y l e v d
+  module _ (y : ℕ) (l : x < m) (n : most ≡ 0 → ⊥) (v : y ≡ prevOf (linksOf m w) x) where
+    pub first-unlinked : (y ≡ m + b → ⊥) → Bad ≡ walkOf w m k b most
+    first-unlinked e = walk-unlinked w m k b _ most (m + b) x (first-walked w m k b most x q) y l n v e
 
-module _ (w : List ℕ) (m k b most x y p : ℕ) (q : x ≡ nextOf (linksOf m w) (m + b)) (l : x < m) (n : most ≡ 0 → ⊥) (v : y ≡ prevOf (linksOf m w) x) (e : y ≡ m + b) (d : p ≡ pageOf w x) (t : Bool) (i : t ≡ eqb (bucketOf k p) b) where
-  pub first-strange : t ≡ false → Bad ≡ walkOf w m k b most
-  first-strange z = sym (rw (strange w m k b (m + b) x (rw d at (sym i ∙ z))) refl) ∙ walk-linked w m k b _ most (m + b) x (first-walked w m k b most x q) y l n v e
+    module _ (p : ℕ) (e : y ≡ m + b) (d : p ≡ pageOf w x) (t : Bool) (i : t ≡ eqb (bucketOf k p) b) where
+      pub first-strange : t ≡ false → Bad ≡ walkOf w m k b most
+      first-strange z = sym (rw (strange w m k b (m + b) x (rw d at (sym i ∙ z))) refl) ∙ walk-linked w m k b _ most (m + b) x (first-walked w m k b most x q) y l n v e
 
-  pub first-rest : (r : Rest) → t ≡ true → r ≡ walkFrom w m k b (most - 1) x → r ≡ walkOf w m k b most
-  first-rest r z j =
-      j ∙ sym (rw (suited w m k b (m + b) x (rw d at (sym i ∙ z)) (first-least w m (m + b) x (omega arith))) refl) ∙ walk-linked w m k b _ most (m + b) x (first-walked w m k b most x q) y l n v e
+      pub first-rest : (r : Rest) → t ≡ true → r ≡ walkFrom w m k b (most - 1) x → r ≡ walkOf w m k b most
+      first-rest r z j =
+          j ∙ sym (rw (suited w m k b (m + b) x (rw d at (sym i ∙ z)) (first-least w m (m + b) x (omega arith))) refl) ∙ walk-linked w m k b _ most (m + b) x (first-walked w m k b most x q) y l n v e
 
-pub on-asks : (w : List ℕ) (m k b x : ℕ) → CanWalk w m k b → x < m → CanGoOn w m k b x
-on-asks w m k b x can l = record { walk = can; place = l }
+-- `walk`: x stands first, and another, z, last
+pub pass-walk : (w : List ℕ) (m : ℕ) (d : Divisor) (b x z : ℕ) → CanPass w m d b x z → CanWalk w m d b
+pass-walk w m d b x z can = can .walk
 
--- THE LOOP of `check`: b buckets are walked
-pub record Checked (w : List ℕ) (m k live left b : ℕ) : Type 0 where
-  pub within : b ≤ k
-  pub same : walksOf w m k live b ≡ Left left
+module _ (w : List ℕ) (m : ℕ) (d : Divisor) (b most x z : ℕ) (can : CanPass w m d b x z) where
+  pub pass-high : m ≤ x → Bad ≡ walkOf w m (d .k) b most
+  pass-high l = ⊎-elim (λ e. first-unclosed w m (d .k) b most x (can .first) l e (λ i. can .other (e ∙ sym i ∙ sym (can .last)))) (λ e. first-astray w m (d .k) b most x (can .first) l e) (same-or-other x (m + b))
 
-pub check-start : (w : List ℕ) (m k live : ℕ) → Checked w m k live live 0
-unfolding walksOf
-check-start w m k live = record { within = omega arith; same = refl }
+  pub pass-full : x < m → most ≡ 0 → Bad ≡ walkOf w m (d .k) b most
+  pass-full l e = first-full w m (d .k) b most x (can .first) l e
 
-pub check-asks : (w : List ℕ) (m k b : ℕ) → Room w m k → b < k → CanWalk w m k b
-check-asks w m k b room h = record { room = room; bucket = h }
+  pub pass-on : x < m → CanGoOn w m d b z x
+  pass-on l = record { walk = can .walk; place = l; last = can .last; other = can .other }
 
--- bad walks stay bad
-stays-bad : (w : List ℕ) (m k live n to : ℕ) → n ≤ to → walksOf w m k live n ≡ Bad → walksOf w m k live to ≡ Bad
-unfolding walksOf
-stays-bad w m k live n zero h e = ap (walksOf w m k live) (let z : 0 ≡ n = omega arith in z) ∙ e
-stays-bad w m k live n (suc to) h e =
-    ⊎-elim (λ q. ap (walksOf w m k live) (sym q) ∙ e) (λ d. ap (walkOn w m k to) (stays-bad w m k live n to (omega arith) e)) (same-or-other n (suc to))
+  module _ (y : ℕ) (l : x < m) (n : most ≡ 0 → ⊥) (v : y ≡ prevOf (linksOf m w) x) where
+    pub pass-unlinked : (y ≡ m + b → ⊥) → Bad ≡ walkOf w m (d .k) b most
+    pass-unlinked e = first-unlinked w m (d .k) b most x (can .first) y l n v e
 
-module _ (w : List ℕ) (m k live left b : ℕ) (g : Checked w m k live left b) where
-  one-more : (r : Rest) → r ≡ walkOf w m k b left → walksOf w m k live (suc b) ≡ r
-  unfolding walksOf
-  one-more r q = ap (walkOn w m k b) (g .same) ∙ sym q
+    module _ (p : ℕ) (e : y ≡ m + b) (g : p ≡ pageOf w x) (t : Bool) (i : t ≡ eqb (bucketOf (d .k) p) b) where
+      pub pass-strange : t ≡ false → Bad ≡ walkOf w m (d .k) b most
+      pass-strange o = first-strange w m (d .k) b most x (can .first) y l n v p e g t i o
 
-  pub check-bad : (r : Rest) → b < k → r ≡ walkOf w m k b left → r ≡ Bad → false ≡ lookupTest w m k live
-  unfolding lookupTest
-  check-bad r h q e = sym (ap usedUp (stays-bad w m k live (suc b) k h (one-more r q ∙ e)))
+      pub pass-rest : (r : Rest) → t ≡ true → r ≡ walkFrom w m (d .k) b (most - 1) x → r ≡ walkOf w m (d .k) b most
+      pass-rest r o j = first-rest w m (d .k) b most x (can .first) y l n v p e g t i r o j
 
-  pub check-turn : (r : Rest) (n : ℕ) → b < k → r ≡ walkOf w m k b left → r ≡ Left n → Checked w m k live n (b + 1)
-  check-turn r n h q e = rw (add-one b) (record { within = h; same = one-more r q ∙ e })
+pub ruleset onLaws = (walk-root, walk-in, walk-page, walk-belong, walk-fits, on-walk, on-place, on-start, on-walked, on-ends, walk-full, walk-unlinked, on-falls, on-strange, on-closed, on-strays, on-turn, needs)
 
-  pub check-end : k ≤ b → eqb left 0 ≡ lookupTest w m k live
-  unfolding lookupTest
-  check-end h = let e : b ≡ k = let l : b ≤ k = g .within in omega arith in ap usedUp (sym (rw e at (g .same)))
-
-pub ruleset laws = (belongs-is, walk-root, walk-in, walk-page, walk-some, walk-fits, on-asks, first-full, first-unlinked, first-astray, first-unclosed, first-closed, first-strange, first-rest, check-start, check-asks, check-bad, check-turn, check-end, needs)
-
-pub ruleset onLaws = (walk-root, walk-in, walk-page, walk-some, walk-fits, on-start, on-walked, walk-full, walk-unlinked, walk-astray, walk-unclosed, walk-closed, on-falls, on-strange, on-turn, needs)
+pub ruleset passLaws = (walk-root, walk-in, walk-page, walk-belong, walk-fits, pass-walk, pass-high, pass-full, pass-on, pass-unlinked, pass-strange, pass-rest, needs)

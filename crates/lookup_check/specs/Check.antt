@@ -2,11 +2,13 @@
 use mathlib.Core.Path.{_≡_}
 use mathlib.Core.Bool.{Bool, false, cond}
 use mathlib.Core.List.{List}
-use Prim.Native.Nat.{ℕ, zero, suc, _+_, _<_, _≤_}
+use Prim.Native.Nat.{ℕ, zero, suc, _+_, _-_, _<_}
 use lib.ListN.{length}
 use lib.Dec.{eqb, ltb, leb}
 use Rattle.cells.specs.Cells.{nextOf, prevOf}
+use Rattle.lookup.specs.declared.Divisor.{Divisor}
 use Rattle.lookup.specs.Buckets.{bucketOf}
+use Rattle.lookup.specs.Dividing.{Divides}
 use Rattle.lookup.specs.Part.{pageOf, linksOf, Room}
 use Rattle.lookup.specs.Lookup.{Lookup, placesIn}
 use Rattle.lookup_check.specs.declared.Rest.{Rest}
@@ -61,11 +63,36 @@ pub record Holding (w : List ℕ) (m k live : ℕ) : Type 0 where
   pub table : Lookup w m k
   pub count : length (placesIn w m k) ≡ live
 
--- what the functions ask of the words: a bucket; a bucket and a place
-pub record CanWalk (w : List ℕ) (m k b : ℕ) : Type 0 where
-  pub room : Room w m k
-  pub bucket : b < k
+-- A BUCKET OF ONE PLACE OR NONE: the cell x stands both after and before the sentinel of bucket b. What it shows for a page: a place its page p; a sentinel
+-- the number of its bucket, which belongs to that bucket and to no other
+unfoldable pub shownPage : ℕ → ℕ → ℕ → ℕ
+shownPage m x p = cond (ltb x m) p (x - m)
 
-pub record CanGoOn (w : List ℕ) (m k b a : ℕ) : Type 0 where
-  pub walk : CanWalk w m k b
+-- how many places x is
+unfoldable pub placesAt : ℕ → ℕ → ℕ
+placesAt m x = cond (ltb x m) 1 0
+
+-- whether x is alone in bucket b: a cell after which and before which the sentinel stands, and that shows a page of the bucket
+unfoldable pub aloneTest : List ℕ → ℕ → ℕ → ℕ → ℕ → Bool
+aloneTest w m k b x =
+    cond (ltb x (m + k))
+    (cond (eqb (nextOf (linksOf m w) x) (m + b)) (cond (eqb (prevOf (linksOf m w) x) (m + b)) (eqb (bucketOf k (shownPage m x (pageOf w x))) b) false) false)
+    false
+
+-- what the functions ask of the words: a bucket; a bucket with the cell x first and another, z, last; a place that is not the last
+pub record CanWalk (w : List ℕ) (m : ℕ) (d : Divisor) (b : ℕ) : Type 0 where
+  pub room : Room w m (d .k)
+  pub divides : Divides d
+  pub bucket : b < d .k
+
+pub record CanPass (w : List ℕ) (m : ℕ) (d : Divisor) (b x z : ℕ) : Type 0 where
+  pub walk : CanWalk w m d b
+  pub first : x ≡ nextOf (linksOf m w) (m + b)
+  pub last : z ≡ prevOf (linksOf m w) (m + b)
+  pub other : x ≡ z → ⊥
+
+pub record CanGoOn (w : List ℕ) (m : ℕ) (d : Divisor) (b z a : ℕ) : Type 0 where
+  pub walk : CanWalk w m d b
   pub place : a < m
+  pub last : z ≡ prevOf (linksOf m w) (m + b)
+  pub other : a ≡ z → ⊥

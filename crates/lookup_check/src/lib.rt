@@ -3,20 +3,14 @@
 //
 // Each bucket is walked once. Each link is held against the link back, and there is a budget of places for all buckets together, so that the
 // test is linear in m + k whatever the words are.
+//
+// Most of the time would go into guesses of the processor that fail: whether a bucket is empty, and how long it is. So a bucket of one place or none has no branch of its
+// own for either, and whether it has more is told by its sentinel alone, which the loop reads in order: its first cell is then not its last.
+use lookup::Divisor;
 ghost use mathlib.Core.Path.{_≡_};
-ghost use Prim.Native.Nat.{_<_};
-ghost use lib.Dec.{eqb};
-ghost use Rattle.lookup.specs.Buckets.{bucketOf};
+ghost use Prim.Native.Nat.{_≤_};
 ghost use Rattle.lookup.specs.Part.{Room};
-ghost use Rattle.lookup_check.specs.Check.{walkFrom, walkOf, lookupTest, CanWalk, CanGoOn};
-
-// Whether the page p belongs to bucket b. `inverse` is the hint of `lookup::bucket_of`, here and below.
-fn belongs(k: usize, inverse: usize, b: usize, p: u64) -> bool
-    requires { ⌜ 0 < k ⌝ }
-    ensures { λ r. ⌜ r ≡ eqb (bucketOf k p) b ⌝ }
-{
-    lookup::bucket_of(k, inverse, p) == b
-}
+ghost use Rattle.lookup_check.specs.Check.{walkFrom, walkOf, lookupTest, shownPage, placesAt, aloneTest, CanWalk, CanPass, CanGoOn};
 
 // What a walk finds: how much of the budget is left, or that the words are no lookup, or that the budget is too small.
 pub enum Rest {
@@ -24,10 +18,11 @@ pub enum Rest {
     Bad,
 }
 
-// The walk of bucket b after its place a, with a budget of so many places. p is the page of the place that is come to.
-fn walk_on(w: &[u64], m: usize, k: usize, inverse: usize, b: usize, most: usize, a: usize) -> Rest
-    requires { ⌜ CanGoOn (now w) m k b a ⌝ }
-    ensures { λ r. ⌜ r ≡ walkFrom (now (w .entry)) m k b most a ⌝ }
+// The walk of bucket b after its place a, with a budget of so many places. z is the cell before the sentinel: the walk ends well only there. p is the page
+// of the place that is come to. d has the number k of buckets, here and below.
+fn walk_on(w: &[u64], m: usize, d: Divisor, b: usize, z: usize, most: usize, a: usize) -> Rest
+    requires { ⌜ CanGoOn (now w) m d b z a ⌝ }
+    ensures { λ r. ⌜ r ≡ walkFrom (now (w .entry)) m (d .k) b most a ⌝ }
 {
     let s = m + b;
     let mut left = most;
@@ -45,39 +40,33 @@ fn walk_on(w: &[u64], m: usize, k: usize, inverse: usize, b: usize, most: usize,
         if q <= p {
             return Rest::Bad;
         }
-        if belongs(k, inverse, b, q) {
+        if lookup::belongs(d, b, q) {
             left = left - 1;
+            let y = lookup::next_of(w, m, x);
+            if x == z {
+                if y == s {
+                    return Rest::Left(left);
+                }
+                return Rest::Bad;
+            }
             cur = x;
             p = q;
-            x = lookup::next_of(w, m, x);
+            x = y;
         } else {
             return Rest::Bad;
         }
     }
-    if x != s {
-        return Rest::Bad;
-    }
-    if lookup::prev_of(w, m, s) != cur {
-        return Rest::Bad;
-    }
-    Rest::Left(left)
+    Rest::Bad
 }
 
-// The walk of bucket b, with a budget of so many places. Most buckets have one place or none: the first has no page before it to be held against.
-pub fn walk(w: &[u64], m: usize, k: usize, inverse: usize, b: usize, most: usize) -> Rest
-    requires { ⌜ CanWalk (now w) m k b ⌝ }
-    ensures { λ r. ⌜ r ≡ walkOf (now (w .entry)) m k b most ⌝ }
+// The walk of bucket b with a budget of so many places, where the cell x stands first in it and another, z, last.
+fn walk(w: &[u64], m: usize, d: Divisor, b: usize, most: usize, x: usize, z: usize) -> Rest
+    requires { ⌜ CanPass (now w) m d b x z ⌝ }
+    ensures { λ r. ⌜ r ≡ walkOf (now (w .entry)) m (d .k) b most ⌝ }
 {
     let s = m + b;
-    let x = lookup::next_of(w, m, s);
     if m <= x {
-        if x != s {
-            return Rest::Bad;
-        }
-        if lookup::prev_of(w, m, s) != s {
-            return Rest::Bad;
-        }
-        return Rest::Left(most);
+        return Rest::Bad;
     }
     if most == 0 {
         return Rest::Bad;
@@ -86,29 +75,83 @@ pub fn walk(w: &[u64], m: usize, k: usize, inverse: usize, b: usize, most: usize
         return Rest::Bad;
     }
     let p = lookup::page_of(w, x);
-    if belongs(k, inverse, b, p) {
+    if lookup::belongs(d, b, p) {
         let left = most - 1;
-        walk_on(w, m, k, inverse, b, left, x)
+        walk_on(w, m, d, b, z, left, x)
     } else {
         Rest::Bad
     }
 }
 
+// What the cell x shows for a page, p being its page where it is a place.
+fn shown(m: usize, x: usize, p: u64) -> u64
+    ensures { λ r. ⌜ r ≡ shownPage m x p ⌝ }
+{
+    if x < m { p } else { (x - m) as u64 }
+}
+
+// How many places the cell x is.
+fn places(m: usize, x: usize) -> usize
+    ensures { λ r. ⌜ r ≡ placesAt m x ⌝ }
+{
+    if x < m { 1 } else { 0 }
+}
+
+// Whether x, the cell that stands both first and last in bucket b, is alone in it: a place of the bucket, or the sentinel itself. All is read before anything is
+// tested: whether x is a place or not is then no branch.
+fn alone(w: &[u64], m: usize, d: Divisor, b: usize, x: usize) -> bool
+    requires { ⌜ CanWalk (now w) m d b ⌝ }
+    ensures { λ r. ⌜ r ≡ aloneTest (now (w .entry)) m (d .k) b x ⌝ }
+{
+    let s = m + b;
+    if m + d.k <= x {
+        return false;
+    }
+    let y = lookup::next_of(w, m, x);
+    let z = lookup::prev_of(w, m, x);
+    let v = lookup::page_of(w, x);
+    let p = shown(m, x, v);
+    if y != s {
+        return false;
+    }
+    if z != s {
+        return false;
+    }
+    lookup::belongs(d, b, p)
+}
+
 // Whether the words are a lookup that holds exactly `live` places.
-pub fn check(w: &[u64], m: usize, k: usize, inverse: usize, live: usize) -> bool
-    requires { ⌜ Room (now w) m k ⌝ }
+pub fn check(w: &[u64], m: usize, k: usize, live: usize) -> bool
+    requires { ⌜ Room (now w) m k × (k ≤ 4096) ⌝ }
     ensures { λ r. ⌜ r ≡ lookupTest (now (w .entry)) m k live ⌝ }
 {
+    let d = lookup::divisor_of(k);
     let mut rest = live;
     let mut b = 0;
     while b < k {
-        match walk(w, m, k, inverse, b, rest) {
-            Rest::Left(n) => {
-                rest = n;
-                b = b + 1;
-            }
-            Rest::Bad => {
+        let s = m + b;
+        let x = lookup::next_of(w, m, s);
+        let z = lookup::prev_of(w, m, s);
+        if x == z {
+            let n = places(m, x);
+            if rest < n {
                 return false;
+            }
+            if alone(w, m, d, b, x) {
+                rest = rest - n;
+                b = b + 1;
+            } else {
+                return false;
+            }
+        } else {
+            match walk(w, m, d, b, rest, x, z) {
+                Rest::Left(n) => {
+                    rest = n;
+                    b = b + 1;
+                }
+                Rest::Bad => {
+                    return false;
+                }
             }
         }
     }

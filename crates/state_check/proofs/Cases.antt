@@ -43,6 +43,10 @@ ghosts-at c i a w r s e = e ∙ ap (λ (l : List ℕ). ghostsTest l c) (ghosts-p
 pub lookup-asks : (c k : ℕ) (w : List ℕ) → Fits c w → k ≡ bucketsOf c → lookup.Room (lookupIn c w) (3 * c) k
 lookup-asks c k w f q = rw q (lookup-room c w (f .small) (f .size))
 
+pub buckets-few : (c k : ℕ) (w : List ℕ) → Fits c w → k ≡ bucketsOf c → k ≤ 4096
+unfolding bucketsOf
+buckets-few c k w f q = let h : c ≤ 1024 = f .small in rw q (omega arith)
+
 pub lookup-at : (c k n : ℕ) (l : List ℕ) (r : Bool) → k ≡ bucketsOf c → r ≡ lookupTest l (3 * c) k n → r ≡ lookupTest l (placesOf c) (bucketsOf c) n
 lookup-at c k n l r q e = rw q at e
 
@@ -180,19 +184,15 @@ module _ (c : ℕ) (w : List ℕ) (t : Bool) (q : t ≡ deadsTest (lookupIn c w)
     unfolding deadTest partsOf
     dead-third v f y = rw (sym q ∙ e, sym p ∙ f) y
 
--- ---- the sums
-module _ (kind c : ℕ) (p : Parts) where
-  pub sums-none : (kind ≡ 1 → ⊥) → true ≡ sumsTest kind c p
+-- ---- the sums, of ARC
+module _ (c : ℕ) (p : Parts) where
+  pub sums-row : (n : ℕ) → n ≡ rowCount p → c + 1 < n → false ≡ sumsTest 1 c p
   unfolding sumsTest
-  sums-none n = rw (ne-eqb kind 1 n) refl
+  sums-row n e h = rw (lt-ltb (c + 1) (rowCount p) (rw e at h)) refl
 
-  pub sums-row : (n : ℕ) → kind ≡ 1 → n ≡ rowCount p → c + 1 < n → false ≡ sumsTest kind c p
+  pub sums-all : (n m : ℕ) → n ≡ rowCount p → n ≤ c + 1 → m ≡ liveCount p → leb m (2 * c + 1) ≡ sumsTest 1 c p
   unfolding sumsTest
-  sums-row n q e h = rw (eq-eqb kind 1 q, lt-ltb (c + 1) (rowCount p) (rw e at h)) refl
-
-  pub sums-all : (n m : ℕ) → kind ≡ 1 → n ≡ rowCount p → n ≤ c + 1 → m ≡ liveCount p → leb m (2 * c + 1) ≡ sumsTest kind c p
-  unfolding sumsTest
-  sums-all n m q e h f = rw (eq-eqb kind 1 q, le-ltb (c + 1) (rowCount p) (rw e at h), f) refl
+  sums-all n m e h f = rw (le-ltb (c + 1) (rowCount p) (rw e at h), f) refl
 
 -- ---- the parts
 module _ (kind c : ℕ) (p : Parts) (t : Bool) (q : t ≡ listsTest c p) where
@@ -205,14 +205,18 @@ module _ (kind c : ℕ) (p : Parts) (t : Bool) (q : t ≡ listsTest c p) where
     unfolding partsTest
     parts-dead f = rw (sym q ∙ e, sym y ∙ f) refl
 
-    module _ (v : Bool) (f : u ≡ true) (z : v ≡ sumsTest kind c p) where
+    pub parts-other : (b : Bool) → u ≡ true → (kind ≡ 1 → ⊥) → b ≡ heldTest c p → b ≡ partsTest kind c p
+    unfolding partsTest sumsTest
+    parts-other b f n x = rw (sym q ∙ e, sym y ∙ f, ne-eqb kind 1 n) x
+
+    module _ (v : Bool) (f : u ≡ true) (k : kind ≡ 1) (z : v ≡ sumsTest 1 c p) where
       pub parts-sums : v ≡ false → false ≡ partsTest kind c p
       unfolding partsTest
-      parts-sums g = rw (sym q ∙ e, sym y ∙ f, sym z ∙ g) refl
+      parts-sums g = rw (k, sym q ∙ e, sym y ∙ f, sym z ∙ g) refl
 
       pub parts-held : (b : Bool) → v ≡ true → b ≡ heldTest c p → b ≡ partsTest kind c p
       unfolding partsTest
-      parts-held b g x = rw (sym q ∙ e, sym y ∙ f, sym z ∙ g) x
+      parts-held b g x = rw (k, sym q ∙ e, sym y ∙ f, sym z ∙ g) x
 
 -- ---- all
 module _ (kind : ℕ) (w : List ℕ) where
@@ -247,7 +251,7 @@ module _ (kind : ℕ) (w : List ℕ) where
           unfolding stateTest
           state-parts r h q = rw (le-ltb (length w) 64 a, eq-eqb (getD w 0 0) kind k, le-ltb 1024 (getD w 1 0) b, le-ltb (length w) (24 * getD w 1 0 + 64) d, le-ltb (getD w 1 0) (getD w 2 0) h) q
 
-pub ruleset laws = (residents-asks, ghosts-asks, ghosts-at, lookup-asks, lookup-at, fit-of, listed-of, listed-fits, needs)
+pub ruleset laws = (residents-asks, ghosts-asks, ghosts-at, lookup-asks, buckets-few, lookup-at, fit-of, listed-of, listed-fits, needs)
 
 pub ruleset listLaws = (lists-first, lists-second, lists-third, fit-of, needs)
 
@@ -255,8 +259,8 @@ pub ruleset countLaws = (row-is, live-is, slots-few, cells-few, fit-of, listed-f
 
 pub ruleset deadLaws = (dead-first, dead-second, dead-third, free-fit, spare-fit, twice, needs)
 
-pub ruleset sumLaws = (sums-none, sums-row, sums-all, live-few, needs)
+pub ruleset sumLaws = (sums-row, sums-all, live-few, needs)
 
-pub ruleset partLaws = (parts-lists, parts-held, parts-dead, parts-sums, listed-of, needs)
+pub ruleset partLaws = (parts-lists, parts-held, parts-dead, parts-other, parts-sums, listed-of, needs)
 
 pub ruleset stateLaws = (state-short, state-kind, state-capacity, state-words, state-fits, state-target, state-parts, needs)

@@ -138,8 +138,7 @@ fn check_lookup(area: &[u64], c: usize, live: usize) -> bool
     let b = 24 * c + 64;
     let m = 3 * c;
     let k = lookup::buckets_of(c);
-    let inverse = area[3] as usize;
-    lookup_check::check(&area[a..b], m, k, inverse, live)
+    lookup_check::check(&area[a..b], m, k, live)
 }
 
 // The residents and both ghost lists.
@@ -221,13 +220,10 @@ fn check_dead(area: &[u64], c: usize) -> bool
 }
 
 // What ARC asks of the lengths besides.
-fn check_sums(area: &[u64], kind: u64, c: usize) -> bool
+fn check_sums(area: &[u64], c: usize) -> bool
     requires { ⌜ Listed c (now area) ⌝ }
-    ensures { λ r. ⌜ r ≡ sumsTest kind c (partsOf c (now (area .entry))) ⌝ }
+    ensures { λ r. ⌜ r ≡ sumsTest 1 c (partsOf c (now (area .entry))) ⌝ }
 {
-    if kind != 1 {
-        return true;
-    }
     let n = row(area, c);
     if c + 1 < n {
         return false;
@@ -235,14 +231,18 @@ fn check_sums(area: &[u64], kind: u64, c: usize) -> bool
     live(area, c) <= 2 * c + 1
 }
 
-// The parts together. The lookup comes last: nothing then has to be kept over the loop that takes the longest.
+// The parts together. The lookup comes last: nothing then has to be kept over the loop that takes the longest. It is called in two places, so that the compiler keeps it a function of its own,
+// with all registers for that loop.
 fn check_parts(area: &[u64], kind: u64, c: usize) -> bool
     requires { ⌜ Fits c (now area) ⌝ }
     ensures { λ r. ⌜ r ≡ partsTest kind c (partsOf c (now (area .entry))) ⌝ }
 {
     if check_lists(area, c) {
         if check_dead(area, c) {
-            if check_sums(area, kind, c) {
+            if kind != 1 {
+                return check_held(area, c);
+            }
+            if check_sums(area, c) {
                 check_held(area, c)
             } else {
                 false

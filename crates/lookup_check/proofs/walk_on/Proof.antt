@@ -1,14 +1,14 @@
--- `lookup_check::walk_on` meets its contract. The loop's invariant: the walk from cur on, with what is left of the budget, gives what the whole walk gives; p is the page of cur. The measure is what is left. Assumes nothing.
+-- `lookup_check::walk_on` meets its contract. The loop's invariant: the walk from cur on, with what is left of the budget, gives what the whole walk gives; p is the page of cur, which is not the last place. The measure is what is left. Assumes nothing.
 use Rattle.lookup_check.specs.Check.{walkFrom}
-use Rattle.lookup_check.proofs.Walking.{WalkedOn, on-turn, onLaws}
+use Rattle.lookup_check.proofs.Walking.{WalkedOn, on-strays, on-turn, onLaws}
 use Rattle.lookup_check.proofs.walk_on.Statement.{statement}
 use Rattle.lookup_check.proofs.walk_on.Tie as tie
 
 abbrev Inv-loop : tie.InvT-loop
-Inv-loop w m k inverse b most a s left₀ cur₀ p₀ x₀ left cur p x = WalkedOn w m k b (walkFrom w m k b most a) left cur p x
+Inv-loop w m d b z most a s left₀ cur₀ p₀ x₀ left cur p x = WalkedOn w m (d .k) b z (walkFrom w m (d .k) b most a) left cur p x
 
 abbrev μ-loop : tie.MeasureT-loop
-μ-loop w m k inverse b most a s left₀ cur₀ p₀ x₀ left cur p x = left
+μ-loop w m d b z most a s left₀ cur₀ p₀ x₀ left cur p x = left
 
 add-s : tie.Need-add-s Inv-loop μ-loop
 add-s c = search onLaws
@@ -46,20 +46,17 @@ sub-left c = search onLaws
 next-of-requires-2 : tie.Need-next-of-requires-2 Inv-loop μ-loop
 next-of-requires-2 c κs = search onLaws
 
-loop-less : tie.Need-loop-less Inv-loop μ-loop
-loop-less c = search onLaws
-
-loop-again : tie.Need-loop-again Inv-loop μ-loop
-loop-again c = on-turn _ _ _ _ _ _ _ _ _ (c .before .before .before .before .before .before .before .before .before .loop .inv) _ _ (c .before .before .before .before .before .before .before .before .loop-test .taken) (c .before .before .before .before .before .before .before .if1 .left) (c .before .before .before .before .before .before .prev-of .ensures) (c .before .before .before .before .before .if2 .left) (c .before .before .before .before .page-of2 .ensures) _ (c .before .before .before .if3 .left) (c .before .before .belongs .ensures) (c .before .if4 .taken) _ (c .next-of2 .ensures)
-
 returns-4 : tie.Need-returns-4 Inv-loop μ-loop
 returns-4 c = search onLaws
 
 returns-5 : tie.Need-returns-5 Inv-loop μ-loop
-returns-5 c = search onLaws
+returns-5 c = on-strays _ _ _ _ _ _ _ _ _ _ (c .before .before .before .before .before .before .before .before .before .before .before .loop .inv) _ _ (c .before .before .before .before .before .before .before .before .before .before .loop-test .taken) (c .before .before .before .before .before .before .before .before .before .if1 .left) (c .before .before .before .before .before .before .before .before .prev-of .ensures) (c .before .before .before .before .before .before .before .if2 .left) (c .before .before .before .before .before .before .page-of2 .ensures) _ (c .before .before .before .before .before .if3 .left) (c .before .before .before .before .belongs .ensures) (c .before .before .before .if4 .taken) _ (c .before .before .next-of2 .ensures) (c .before .if5 .taken) (c .if6 .left)
 
-prev-of-requires-2 : tie.Need-prev-of-requires-2 Inv-loop μ-loop
-prev-of-requires-2 c κs = search onLaws
+loop-less : tie.Need-loop-less Inv-loop μ-loop
+loop-less c = search onLaws
+
+loop-again : tie.Need-loop-again Inv-loop μ-loop
+loop-again c = on-turn _ _ _ _ _ _ _ _ _ _ (c .before .before .before .before .before .before .before .before .before .before .loop .inv) _ _ (c .before .before .before .before .before .before .before .before .before .loop-test .taken) (c .before .before .before .before .before .before .before .before .if1 .left) (c .before .before .before .before .before .before .before .prev-of .ensures) (c .before .before .before .before .before .before .if2 .left) (c .before .before .before .before .before .page-of2 .ensures) _ (c .before .before .before .before .if3 .left) (c .before .before .before .belongs .ensures) (c .before .before .if4 .taken) _ (c .before .next-of2 .ensures) (c .if5 .left)
 
 returns-6 : tie.Need-returns-6 Inv-loop μ-loop
 returns-6 c = search onLaws
@@ -85,10 +82,9 @@ walk-on-spec =
     belongs-requires
     sub-left
     next-of-requires-2
-    loop-less
-    loop-again
     returns-4
     returns-5
-    prev-of-requires-2
+    loop-less
+    loop-again
     returns-6
     returns-7)

@@ -23,9 +23,6 @@ mul-m c = search laws
 buckets-of-requires : tie.Need-buckets-of-requires
 buckets-of-requires c κs = search laws
 
-shared-slice-read-inverse : tie.Need-shared-slice-read-inverse
-shared-slice-read-inverse c = search laws
-
 mul-check : tie.Need-mul-check
 mul-check c = search laws
 
@@ -56,7 +53,6 @@ check-lookup-spec =
     add-b
     mul-m
     buckets-of-requires
-    shared-slice-read-inverse
     mul-check
     sub-check
     part-check-start

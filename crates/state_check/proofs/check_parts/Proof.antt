@@ -9,14 +9,17 @@ check-lists-requires c κs = search partLaws
 check-dead-requires : tie.Need-check-dead-requires
 check-dead-requires c κs = search partLaws
 
-check-sums-requires : tie.Need-check-sums-requires
-check-sums-requires c κs = search partLaws
-
 check-held-requires : tie.Need-check-held-requires
 check-held-requires c κs = search partLaws
 
 returns : tie.Need-returns
 returns c = search partLaws
+
+check-sums-requires : tie.Need-check-sums-requires
+check-sums-requires c κs = search partLaws
+
+check-held-requires-2 : tie.Need-check-held-requires-2
+check-held-requires-2 c κs = search partLaws
 
 returns-2 : tie.Need-returns-2
 returns-2 c = search partLaws
@@ -27,15 +30,20 @@ returns-3 c = search partLaws
 returns-4 : tie.Need-returns-4
 returns-4 c = search partLaws
 
+returns-5 : tie.Need-returns-5
+returns-5 c = search partLaws
+
 pub check-parts-spec : {M : Type 1} → statement M
 check-parts-spec =
     tie.close
     (tie.spec
     check-lists-requires
     check-dead-requires
-    check-sums-requires
     check-held-requires
     returns
+    check-sums-requires
+    check-held-requires-2
     returns-2
     returns-3
-    returns-4)
+    returns-4
+    returns-5)
