@@ -1,6 +1,7 @@
 /* check FILE..: for each area, nanoseconds of a plain sum over its words, of a sum word by word, of the state check, of `new` and, on an area of ARC, of one
  * public call, a get that hits: medians over rounds, and the ratios to the plain sum, with the quartiles of the ratios of the rounds. In a round they are timed one after
- * the other. check once|twice|none WHAT FILE: one or two calls, or none, of sum, scalar, check, new or get, for an instruction count. */
+ * the other. Then the same areas in turn, one call each: a processor that has seen one area a thousand times has learnt its branches by heart, and a check in use has not.
+ * check once|twice|none WHAT FILE: one or two calls, or none, of sum, scalar, check, new or get, for an instruction count. */
 #include <stdint.h>
 #include <stdio.h>
 #include <stdlib.h>
@@ -96,6 +97,49 @@ static void times(const char *name)
     }
 }
 
+/* The check of areas in turn: the largest of those given. */
+static int in_turn(int count, char **names_of)
+{
+    enum { TURNS = 201, MANY = 64 };
+    static uint64_t *areas[MANY];
+    static double sum[MANY][TURNS], check[MANY][TURNS];
+    const char *of[MANY];
+    size_t largest = 0;
+    int many = 0;
+    uint64_t seen = 0;
+    for (int i = 0; i < count; i++) {
+        if (!load(names_of[i]))
+            return 0;
+        if (words > largest) {
+            largest = words;
+            many = 0;
+        }
+        if (words < largest || many == MANY)
+            continue;
+        if ((areas[many] = malloc(largest * 8)) == NULL)
+            return 0;
+        memcpy(areas[many], area, largest * 8);
+        of[many++] = strrchr(names_of[i], '/') ? strrchr(names_of[i], '/') + 1 : names_of[i];
+    }
+    for (int turn = 0; turn < TURNS; turn++)
+        for (int i = 0; i < many; i++) {
+            seen += plain_sum(areas[i], largest); /* the words come near first */
+            double began = now();
+            seen += plain_sum(areas[i], largest);
+            double between = now();
+            seen += timed_check(areas[i], largest, areas[i][0]);
+            check[i][turn] = now() - between;
+            sum[i][turn] = between - began;
+        }
+    printf("in turn (%d areas of %llu words, answers %llu)\n", many, (unsigned long long)largest, (unsigned long long)seen % 10);
+    for (int i = 0; i < many; i++) {
+        qsort(sum[i], TURNS, sizeof **sum, rising);
+        qsort(check[i], TURNS, sizeof **check, rising);
+        printf("    check in turn %-22s %9.0f ns  %6.2f of the sum\n", of[i], check[i][TURNS / 2], check[i][TURNS / 2] / sum[i][TURNS / 2]);
+    }
+    return 1;
+}
+
 int main(int argc, char **argv)
 {
     if (argc == 4 && (strcmp(argv[1], "none") == 0 || strcmp(argv[1], "once") == 0 || strcmp(argv[1], "twice") == 0)) {
@@ -113,5 +157,5 @@ int main(int argc, char **argv)
             return 1;
         times(argv[i]);
     }
-    return 0;
+    return in_turn(argc - 1, argv + 1) ? 0 : 1;
 }

@@ -1,7 +1,8 @@
 #!/usr/bin/env python3
 """make_areas.py FOLDER: writes areas of full caches by docs/LAYOUT.md, eight bytes a word, low byte first: FOLDER/KIND-C-SHAPE.area for ARC and CAR and
 the capacities 64, 256 and 1,024. `ordered`: cells and pages rise along every list. `run`: after a run of operations, with the cells in any order, as they
-are after a long time; its pages have at most 26 bits, as those of the recorded traces have. `wide`: the same with pages of 64 bits."""
+are after a long time; its pages have at most 26 bits, as those of the recorded traces have. `wide`: the same with pages of 64 bits. Of 1,024 frames there are four
+of each, `run` to `run-4`, to be checked in turn."""
 import os
 import random
 import struct
@@ -60,7 +61,8 @@ def main():
         for c in (64, 256, 1024):
             any_order = shuffled(rng)
             shapes = {'ordered': area.write(kind, ordered(kind, c))}
-            for shape, bits in (('run', 26), ('wide', 64)):
+            more = ('', '-2', '-3', '-4') if c == 1024 else ('',)
+            for shape, bits in [(name_of + n, size) for name_of, size in (('run', 26), ('wide', 64)) for n in more]:
                 shapes[shape] = area.write(kind, moved(run(kind, c, bits, rng), any_order(c)), order=any_order)
             for shape, words in shapes.items():
                 assert area.good(words, kind)
