@@ -1,5 +1,5 @@
 -- 01's number and values for each case of the code's answers. Assumes nothing.
-use mathlib.Core.Bool.{Bool, cond}
+use mathlib.Core.Bool.{cond}
 use Prim.Native.Nat.{ℕ}
 use lib.Dec.{eqb}
 use Rattle.rules.specs.State.{first, second}

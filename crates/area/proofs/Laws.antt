@@ -1,17 +1,15 @@
 -- What a write of one part does to the parts together, and what answers the needs of the functions.
 -- Assumes nothing.
 use mathlib.Core.Path.{_≡_, refl, sym, ap, _∙_}
-use mathlib.Core.Bool.{Bool, true, false, cond}
-use mathlib.Core.List.{List, [], _∷_, _++_}
-use Prim.Native.Nat.{ℕ, zero, suc, _+_, _-_, _*_, _<_, _≤_}
+use mathlib.Core.List.{List}
+use Prim.Native.Nat.{ℕ, _+_, _-_, _*_, _<_, _≤_}
 use native.Mathlib.Omega.{arith}
-use lib.Dec.{eqb}
-use lib.ListN.{length, getD, set, take, drop, length-set, length-drop}
+use lib.ListN.{length, getD, set, take, length-set, length-drop}
 use lib.Seq.{getD-take, getD-set-same, getD-set-other, drop-set-lt}
 use borrow.Author.Tests.{eq-eqb, ne-eqb}
 use borrow.Author.Needs.{needs}
 use Rattle.rules.specs.State.{Side, first, second}
-use Rattle.cells.specs.Cells.{In, nextOf, prevOf}
+use Rattle.cells.specs.Cells.{In, prevOf}
 use Rattle.tails.specs.Tails.{tailOf}
 use Rattle.residents.specs.Residents as residents
 use Rattle.residents.specs.Changes.{HasList, HasSlot, Added, topOf}
@@ -21,7 +19,7 @@ use Rattle.lookup.specs.Buckets.{bucketsOf}
 use Rattle.lookup.specs.Lookup.{findOf, look, placeOr, CanFind}
 use Rattle.parts.specs.Parts.{Parts, setTarget, setResidents, setGhosts, setLookup}
 use Rattle.area.specs.Part.{part, splice}
-use Rattle.area.specs.Area.{kindOf, capacityOf, targetOf, ghostsAt, lookupAt, endAt, sideOf, residentsIn, ghostsIn, lookupIn, partsOf, Starts, Fit, Became, Answered}
+use Rattle.area.specs.Area.{ghostsAt, endAt, sideOf, residentsIn, ghostsIn, lookupIn, partsOf, Starts, Became, Answered}
 use Rattle.area.proofs.Part.{length-part, length-splice, take-splice, part-splice, part-above, part-below, drop-above, take-below}
 
 -- ---- the lengths of the parts

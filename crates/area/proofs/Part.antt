@@ -1,11 +1,11 @@
 -- The laws of a part of an area, and of an area with a part replaced. Assumes nothing.
 use mathlib.Core.Path.{_≡_, refl, sym, ap, _∙_}
 use mathlib.Core.List.{List, [], _∷_, _++_}
-use Prim.Native.Nat.{ℕ, zero, suc, _+_, _-_, _≤_, _<_}
+use Prim.Native.Nat.{ℕ, zero, suc, _+_, _-_, _≤_}
 use native.Mathlib.Omega.{arith}
 use native.Mathlib.Nat.{add-sub-of-le, zero-add, suc-add, le-refl}
-use lib.ListN.{length, getD, take, drop, length-append, length-take, length-drop}
-use lib.Seq.{take-nil, take-at, drop-at, take-append-le, drop-append-le, drop-append-add, drop-drop, take-take, getD-take, getD-drop, ext-getD, length-take-le}
+use lib.ListN.{length, take, drop, length-append, length-drop}
+use lib.Seq.{take-nil, take-at, drop-at, drop-drop, take-take, length-take-le}
 use Rattle.area.specs.Part.{part, splice}
 
 pub length-part : (a b : ℕ) (xs : List ℕ) → a ≤ b → b ≤ length xs → length (part a b xs) ≡ b - a

@@ -1,13 +1,12 @@
 -- From what a change does to the parts to what an operation leaves.
 -- Assumes nothing.
-use mathlib.Core.Path.{_≡_, refl, sym, ap, _∙_}
+use mathlib.Core.Path.{ap, _∙_}
 use mathlib.Core.List.{List}
-use Prim.Native.Nat.{ℕ, _≤_}
-use lib.ListN.{length}
+use Prim.Native.Nat.{ℕ}
 use Rattle.rules.specs.Car.{Car}
-use Rattle.parts.specs.Parts.{Parts, Holds, stateOf}
+use Rattle.parts.specs.Parts.{Parts, stateOf}
 use Rattle.parts.proofs.HoldsAs.{Becomes}
-use Rattle.area.specs.Area.{kindOf, capacityOf, endAt, partsOf, Became}
+use Rattle.area.specs.Area.{Became}
 use Rattle.area.specs.Stored.{Stored, stateIn, Left}
 
 pub left : (c : ℕ) (w v : List ℕ) (q : Parts) (s : Car) → Stored c w → Became c w v q → Becomes c q s → Left c w v s

@@ -1,10 +1,10 @@
 -- How an area of capacity c is cut: a header of 43 words, then the residents, B1, B2 and the lookup (docs/LAYOUT.md). Assumes nothing.
 use mathlib.Core.Path.{_≡_}
 use mathlib.Core.Bool.{cond}
-use mathlib.Core.List.{List, [], _∷_}
-use Prim.Native.Nat.{ℕ, _+_, _*_, _<_, _≤_}
+use mathlib.Core.List.{List}
+use Prim.Native.Nat.{ℕ, _+_, _*_, _≤_}
 use lib.Dec.{eqb}
-use lib.ListN.{length, getD, set, drop}
+use lib.ListN.{length, getD, drop}
 use Rattle.rules.specs.State.{Side, first, second}
 use Rattle.parts.specs.Parts.{Parts}
 use Rattle.area.specs.Part.{part}

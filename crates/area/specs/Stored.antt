@@ -3,7 +3,7 @@ use mathlib.Core.Path.{_≡_}
 use mathlib.Core.List.{List, map}
 use Prim.Native.Nat.{ℕ, _≤_}
 use lib.ListN.{length, drop}
-use Rattle.rules.specs.State.{Entry, entry, Lists}
+use Rattle.rules.specs.State.{Entry, entry}
 use Rattle.rules.specs.Arc.{Arc, Plain}
 use Rattle.rules.specs.Car.{Car, Resident}
 use Rattle.parts.specs.Parts.{Holds, stateOf}

@@ -7,7 +7,7 @@ use lib.Dec.{eqb}
 use Rattle.rules.specs.Calls.{Answer, Finished, Stopped}
 use Rattle.rules.specs.Batch.{Batched, batch, answerOf}
 use Rattle.rules.specs.Public.{BatchDone, batched}
-use Rattle.calls.specs.Policy.{Policy, reads}
+use Rattle.calls.specs.Policy.{Policy}
 use Rattle.calls.proofs.Accepting.{is3}
 use Rattle.calls.proofs.Exact.{Exact}
 use Rattle.calls.proofs.Refusing.{Exactly, exactly}

@@ -3,20 +3,18 @@
 use mathlib.Core.Path.{_≡_, refl, sym, subst, ap, _∙_}
 use mathlib.Core.Bool.{cond}
 use mathlib.Core.List.{List, [], _∷_, map}
-use Prim.Native.Nat.{ℕ, suc, _+_, _-_, _^_, _<_, _≤_}
-use native.Mathlib.Nat.{add-zero, add-assoc}
+use Prim.Native.Nat.{ℕ, _+_, _-_, _^_, _<_, _≤_}
 use native.Mathlib.Omega.{arith}
 use lib.Dec.{eqb}
 use lib.ListN.{length, drop}
 use borrow.Author.Needs.{needs}
 use borrow.Author.Tests.{ne-eqb}
-use Rattle.trace.specs.Reading.{Parsed, whole, refused, operationOf, Reading, reading, readFrom, readingOf}
+use Rattle.trace.specs.Reading.{Parsed, whole, refused, operationOf, Reading, reading, readingOf}
 use Rattle.trace.specs.Steps.{stepped, stepAt}
 use Rattle.trace.specs.declared.Operation.{Operation}
-use Rattle.trace.specs.declared.Found.{Found}
 use Rattle.trace.specs.declared.Found.the-variants.{Read, End, Refused}
 use Rattle.trace.specs.declared.Step.{Step}
-use Rattle.trace.proofs.Laws.{Numbered, numbered, added}
+use Rattle.trace.proofs.Laws.{numbered, added}
 use Rattle.trace.proofs.Arms.{part}
 use Rattle.trace.proofs.Turns.{from, turn}
 use Rattle.rules.specs.Calls.{Call, Answer, Finished, Stopped, Done, run}

@@ -1,12 +1,12 @@
 -- Every call leaves the capacity as it is, both policies. In order: ARC; CAR. Assumes nothing.
 use mathlib.Core.Path.{_≡_, refl, _∙_}
 use mathlib.Core.Bool.{Bool, true, false}
-use mathlib.Core.List.{List, [], _∷_}
+use mathlib.Core.List.{List}
 use mathlib.Core.Option.{Option, some, none}
 use Prim.Native.Nat.{ℕ, zero, suc, _+_, _*_}
 use lib.Dec.{leb, eqb}
 use lib.ListN.{length}
-use Rattle.rules.specs.State.{Lists, Side, list, full, inAll, resident}
+use Rattle.rules.specs.State.{Side, list, full, inAll, resident}
 use Rattle.rules.specs.Calls.{Call, Get, Insert, Remove, Clear, Ask, Place, ghost, nowhere, Replaced, replaceIf}
 use Rattle.rules.specs.Stages.{placeOf, ghostHit, isB2, turn}
 use Rattle.rules.specs.Lists.{last}

@@ -1,6 +1,6 @@
 -- What a contract says of an area that reads as a state. In order: what words read as; a call; a question, which leaves the area; `new`; a call keeps the capacity.
 -- Assumes nothing.
-use mathlib.Core.Path.{_≡_, refl, sym, subst, ap, _∙_}
+use mathlib.Core.Path.{_≡_, refl, subst, ap, _∙_}
 use mathlib.Core.Bool.{Bool, true, false, cond}
 use mathlib.Core.List.{List}
 use mathlib.Core.Logic.{_⊎_, inl, inr}
@@ -8,8 +8,8 @@ use mathlib.Core.Option.{Option, some, none}
 use Prim.Native.Nat.{ℕ, _^_, _<_}
 use native.Mathlib.Omega.{arith}
 use lib.Dec.{ltb}
-use lib.ListN.{length, drop, getD}
-use Rattle.rules.specs.Calls.{Call, Question, Capacity, Ask, Answer, Number, Made, Refused, Done, done}
+use lib.ListN.{length, getD}
+use Rattle.rules.specs.Calls.{Call, Question, Capacity, Ask, Answer, Number, Made, Refused, done}
 use Rattle.rules.specs.State.{maxCapacity}
 use Rattle.rules.specs.Public.{wordsNeeded, made, called}
 use Rattle.parts.specs.Parts as parts

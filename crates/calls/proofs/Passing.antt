@@ -2,13 +2,13 @@
 use mathlib.Core.Path.{_≡_, refl, sym, subst, ap, _∙_}
 use mathlib.Core.Bool.{Bool, true, false}
 use mathlib.Core.List.{List}
-use mathlib.Core.Option.{some, none}
+use mathlib.Core.Option.{some}
 use Prim.Native.Nat.{ℕ, _≤_}
 use lib.Dec.{ltb}
 use borrow.Author.Tests.{ltb-false}
 use native.Mathlib.Omega.{arith}
 use lib.ListN.{length, drop}
-use Rattle.rules.specs.Calls.{Call, Question, Ask, Answer, Refused, done}
+use Rattle.rules.specs.Calls.{Call, Question, Answer, Refused, done}
 use Rattle.rules.specs.State.{maxCapacity}
 use Rattle.rules.specs.Car.{new}
 use Rattle.rules.specs.Public.{wordsNeeded, made, called}
@@ -16,9 +16,8 @@ use Rattle.area.specs.Stored.{Writes}
 use Rattle.fresh.specs.Fresh.{answerOf, Leaves, Empty, New}
 use Rattle.fresh.specs.declared.Made as declared
 use Rattle.fresh.specs.declared.Made.the-variants as made
-use Rattle.area.specs.Area.{capacityOf}
 use Rattle.state_check.specs.Check.{stateTest}
-use Rattle.calls.specs.Policy.{Policy, stateOf, reads}
+use Rattle.calls.specs.Policy.{Policy, reads}
 use Rattle.calls.specs.Inner.{Good, Did, Says}
 use Rattle.calls.specs.Outer.{Outcome, Told, Making, madeIs}
 use Rattle.calls.proofs.Exact.{Exact}

@@ -1,7 +1,7 @@
 -- REFUSALS ARE EXACT: 3 is "given exactly when" the words are no writing of a well-formed state of the policy, whatever the call; and `new` gives 1 and 2 exactly
 -- when 01 says. Assumes nothing.
 use mathlib.Core.Path.{_≡_, refl, sym, ap, _∙_}
-use mathlib.Core.Bool.{Bool, true, false, false≢true}
+use mathlib.Core.Bool.{true, false, false≢true}
 use mathlib.Core.List.{List}
 use mathlib.Core.Option.{Option, some, none}
 use Prim.Native.Nat.{ℕ, _+_, _*_, _^_, _<_, _≤_}
@@ -13,9 +13,8 @@ use Rattle.rules.specs.Car.{Car}
 use Rattle.rules.specs.Public.{made, called}
 use Rattle.area.specs.Area.{capacityOf}
 use Rattle.area.specs.Stored.{stateIn, Writes}
-use Rattle.state_check.specs.Check.{stateTest}
 use Rattle.state_check.proofs.State.{state-writes}
-use Rattle.calls.specs.Policy.{Policy, stateOf, reads}
+use Rattle.calls.specs.Policy.{Policy, reads}
 use Rattle.calls.specs.Outer.{Outcome, Told, Making}
 use Rattle.calls.proofs.Accepting.{is3}
 use Rattle.calls.proofs.Exact.{Exact}

@@ -5,7 +5,7 @@ use mathlib.Core.Option.{none}
 use Prim.Native.Nat.{ℕ}
 use lib.ListN.{length, drop}
 use Rattle.rules.specs.Calls as rules
-use Rattle.rules.specs.Calls.{Call, Question, Ask, Answer, Done, done}
+use Rattle.rules.specs.Calls.{Call, Question, Ask, Answer, done}
 use Rattle.rules.specs.Public.{wordsNeeded, made, called}
 use Rattle.area.specs.Area.{capacityOf}
 use Rattle.fresh.specs.declared.Made as declared

@@ -1,29 +1,24 @@
 -- The laws of ghost lists: what each change does to the two lists, and that the test decides. In order: the reading; what the list and the spares have;
 -- a page recorded; a cell forgotten; an empty list; the test.
 -- Assumes nothing.
-use mathlib.Core.Path.{_≡_, refl, sym, ap, _∙_}
-use mathlib.Core.Bool.{Bool, true, false, cond, false≢true}
-use mathlib.Core.Logic.{_⊎_, inl, inr, ⊎-elim}
+use mathlib.Core.Path.{_≡_, refl, _∙_}
+use mathlib.Core.Logic.{_⊎_}
 use mathlib.Core.List.{List, [], _∷_, _++_}
-use Prim.Native.Nat.{ℕ, zero, suc, _+_, _-_, _<_, _≤_}
+use Prim.Native.Nat.{ℕ, suc, _+_, _-_, _<_}
 use native.Mathlib.Omega.{arith}
 use native.Mathlib.Nat.{not-suc-le-zero}
 use lib.ListN.{length, length-append}
-use lib.Dec.{ltb}
-use borrow.Author.Tests.{lt-ltb, le-ltb, ltb-false}
-use Rattle.cells.specs.Cells.{In, nextOf, prevOf}
+use Rattle.cells.specs.Cells.{In, prevOf}
 use Rattle.cells.proofs.Laws.{in-length}
-use Rattle.rings.specs.Members.{Mem, Fresh, Distinct, without, lastOf, withoutLast, upFrom}
-use Rattle.rings.specs.Rings.{Ring, membersOf, detached, fronted, emptied, filled, CanFront}
-use Rattle.rings.specs.Walks.{ringTest}
-use Rattle.rings.proofs.Members.{length-without, without-first, fresh-without, mem-append, distinct-append, below-append}
-use Rattle.rings.proofs.Pigeons.{covers, length-upFrom, last-mem}
-use Rattle.rings.proofs.Ring.{ring-distinct, detach-ring, detach-other, apart, empty-ring, empty-other, length-emptied}
+use Rattle.rings.specs.Members.{Mem, Fresh, without, lastOf, upFrom}
+use Rattle.rings.specs.Rings.{Ring, detached, fronted, emptied, filled, CanFront}
+use Rattle.rings.proofs.Members.{length-without, fresh-without, mem-append, distinct-append, below-append}
+use Rattle.rings.proofs.Pigeons.{covers, length-upFrom}
+use Rattle.rings.proofs.Ring.{ring-distinct, detach-ring, detach-other, apart, empty-ring, length-emptied}
 use Rattle.rings.proofs.Moves.{can-front, front-to, front-other, length-fronted}
-use Rattle.rings.proofs.Reading.{ring-members, ring-read, last-is, last-member, last-out, first-is}
+use Rattle.rings.proofs.Reading.{ring-members, last-is}
 use Rattle.rings.proofs.Filling.{fill-ring, fill-other, length-filled}
-use Rattle.rings.proofs.Walks.{Counted, test-sound, test-complete}
-use Rattle.ghosts.specs.Ghosts.{countOf, linksOf, ghostWords, Room, Ghosts, liveOf, spareOf, IsGhosts, CanRecord, CanForget, cellFor, countFor, recordCell, recorded, cellOf, liveAfter, spareAfter, forgotten, made, ghostsTest}
+use Rattle.ghosts.specs.Ghosts.{countOf, linksOf, ghostWords, Room, Ghosts, liveOf, spareOf, IsGhosts, forgotten, made}
 use Rattle.ghosts.proofs.Parts.{count-words, links-words, room-words, list-in}
 
 -- THE READING IS THE ONLY ONE

@@ -1,25 +1,24 @@
 -- The laws that answer the needs of the functions, in the shape in which the code leaves them: w is the part at entry, u and v what it is after a call. Assumes nothing.
 use mathlib.Core.Path.{_≡_, refl, sym, ap, _∙_}
-use mathlib.Core.Bool.{Bool, true, false, cond}
-use mathlib.Core.Logic.{_⊎_, inl, inr}
-use mathlib.Core.List.{List, [], _∷_}
+use mathlib.Core.Bool.{Bool, true, false}
+use mathlib.Core.List.{List}
 use Prim.Native.Nat.{ℕ, suc, _+_, _-_, _<_, _≤_}
 use native.Mathlib.Omega.{arith}
-use lib.ListN.{length, getD, set, length-set}
+use lib.ListN.{length, getD, set}
 use lib.Seq.{set-getD}
 use lib.Dec.{ltb}
 use borrow.Author.Needs.{needs}
 use borrow.Author.Tests.{lt-ltb, le-ltb}
 use Rattle.cells.specs.Cells.{In, nextOf, prevOf}
 use Rattle.cells.proofs.Laws.{in-length}
-use Rattle.rings.specs.Members.{Mem, without}
+use Rattle.rings.specs.Members.{without}
 use Rattle.rings.specs.Rings.{fronted, emptied, filled, CanFront, CanFill}
 use Rattle.rings.specs.Walks.{ringTest, CanWalk}
 use Rattle.rings.proofs.Members.{length-without}
 use Rattle.rings.proofs.Ring.{length-emptied}
 use Rattle.tails.specs.Tails.{tailOf, withTail, Tail}
 use Rattle.tails.proofs.Laws.{tail-withTail, withTail-withTail, word-withTail, same-length-withTail}
-use Rattle.ghosts.specs.Ghosts.{countOf, linksOf, ghostWords, Room, Ghosts, liveOf, spareOf, Counted, CanRecord, CanForget, Recorded, countFor, recordCell, recorded, forgotten, made, ghostsTest}
+use Rattle.ghosts.specs.Ghosts.{countOf, ghostWords, Room, liveOf, spareOf, Counted, CanRecord, CanForget, Recorded, countFor, recordCell, recorded, forgotten, made, ghostsTest}
 use Rattle.ghosts.proofs.Parts.{list-in}
 use Rattle.ghosts.proofs.Laws.{can-forget}
 use Rattle.ghosts.proofs.Recording.{Records, isSpare, records}

@@ -1,13 +1,13 @@
 -- The part as a count and links. In order: the count and the links of words that are made of both; the room. Assumes nothing.
-use mathlib.Core.Path.{_≡_, refl, sym, ap, _∙_}
-use mathlib.Core.List.{List, [], _∷_}
-use Prim.Native.Nat.{ℕ, _+_, _-_, _<_, _≤_}
+use mathlib.Core.Path.{_≡_, _∙_}
+use mathlib.Core.List.{List}
+use Prim.Native.Nat.{ℕ, _+_, _-_, _≤_}
 use native.Mathlib.Omega.{arith}
-use lib.ListN.{length, getD, set, length-set}
+use lib.ListN.{length, length-set}
 use lib.Seq.{getD-set-same}
-use Rattle.cells.specs.Cells.{In, Cells, wordsOf}
+use Rattle.cells.specs.Cells.{In, wordsOf}
 use Rattle.cells.proofs.Laws.{in-length, in-below, in-cells, cells-words}
-use Rattle.tails.specs.Tails.{tailOf, withTail}
+use Rattle.tails.specs.Tails.{withTail}
 use Rattle.tails.proofs.Laws.{tail-withTail, tail-set, length-tail, length-withTail, same-length-withTail}
 use Rattle.ghosts.specs.Ghosts.{countOf, linksOf, ghostWords, Room}
 

@@ -1,9 +1,9 @@
 -- The laws of a page recorded in a ghost list: a spare cell comes to the front, or the oldest where none is spare. Assumes nothing.
-use mathlib.Core.Path.{_≡_, refl, sym, ap, _∙_}
+use mathlib.Core.Path.{_≡_, refl, ap, _∙_}
 use mathlib.Core.Bool.{Bool, true, false}
-use mathlib.Core.Logic.{_⊎_, inl, inr}
+use mathlib.Core.Logic.{inl}
 use mathlib.Core.List.{List, [], _∷_}
-use Prim.Native.Nat.{ℕ, zero, suc, _+_, _-_, _<_, _≤_}
+use Prim.Native.Nat.{ℕ, suc, _+_, _-_, _<_}
 use native.Mathlib.Omega.{arith}
 use lib.ListN.{length}
 use lib.Dec.{ltb}
@@ -15,7 +15,7 @@ use Rattle.rings.proofs.Members.{length-without, without-first, fresh-without}
 use Rattle.rings.proofs.Ring.{ring-distinct, detach-ring, detach-other, apart}
 use Rattle.rings.proofs.Moves.{can-front, front-to, front-other, length-fronted}
 use Rattle.rings.proofs.Reading.{first-is, last-member, last-out}
-use Rattle.ghosts.specs.Ghosts.{countOf, linksOf, Ghosts, cellFor, countFor, recordCell, recorded, cellOf, liveAfter, spareAfter}
+use Rattle.ghosts.specs.Ghosts.{countOf, linksOf, Ghosts, cellFor, recordCell, recorded, cellOf, liveAfter, spareAfter}
 use Rattle.ghosts.proofs.Laws.{ghosts-of, oldest-is}
 
 -- what recording does, and what it asks, where e is the cell and t tells whether it is spare

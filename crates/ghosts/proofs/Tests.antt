@@ -1,15 +1,15 @@
 -- The test of a ghost list decides: it is true where the words are one, and only there. Assumes nothing.
-use mathlib.Core.Path.{_≡_, refl, sym, ap, _∙_}
+use mathlib.Core.Path.{_≡_, refl, sym}
 use mathlib.Core.Bool.{Bool, true, false, cond, false≢true}
 use mathlib.Core.List.{List}
-use Prim.Native.Nat.{ℕ, _+_, _-_, _<_, _≤_}
+use Prim.Native.Nat.{ℕ, _+_, _-_, _≤_}
 use native.Mathlib.Omega.{arith}
 use lib.ListN.{length}
 use lib.Dec.{ltb}
 use borrow.Author.Tests.{le-ltb, ltb-false}
-use Rattle.rings.specs.Rings.{Ring, membersOf}
+use Rattle.rings.specs.Rings.{membersOf}
 use Rattle.rings.specs.Walks.{ringTest}
-use Rattle.rings.proofs.Walks.{Counted, test-sound, test-complete}
+use Rattle.rings.proofs.Walks.{test-sound, test-complete}
 use Rattle.ghosts.specs.Ghosts.{countOf, linksOf, Room, Ghosts, liveOf, spareOf, IsGhosts, ghostsTest}
 use Rattle.ghosts.proofs.Parts.{list-in}
 

@@ -14,7 +14,7 @@ use Rattle.rules.specs.Calls.{Get, Insert, Answer, Refused, Done}
 use Rattle.rules.specs.Arc as arc
 use Rattle.rules.specs.Arc.{Arc, does}
 use Rattle.area.specs.Area.{capacityOf}
-use Rattle.area.specs.Part.{part, splice}
+use Rattle.area.specs.Part.{splice}
 use Rattle.area.proofs.Part.{length-part, length-splice, part-splice, part-above, part-below, drop-above}
 use Rattle.answers.specs.Answers.{gotIs, insertedIs}
 use Rattle.answers.specs.declared.Got.{Got}

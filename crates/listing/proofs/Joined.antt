@@ -1,5 +1,5 @@
 -- Two lists of slots below c, one after the other: xs ends at c, ys at c + 1, and past the last of xs comes the first of ys. Assumes nothing.
-use mathlib.Core.Path.{_≡_, refl, sym, ap, _∙_}
+use mathlib.Core.Path.{_≡_, refl, sym, _∙_}
 use mathlib.Core.Bool.{cond}
 use mathlib.Core.List.{List, [], _∷_, _++_}
 use mathlib.Core.Logic.{inl, inr}

@@ -2,7 +2,7 @@
 use mathlib.Core.Path.{_≡_, refl, sym, ap, _∙_}
 use mathlib.Core.Bool.{Bool, true, false, cond}
 use mathlib.Core.List.{List}
-use Prim.Native.Nat.{ℕ, suc, _+_, _-_, _^_, _<_, _≤_}
+use Prim.Native.Nat.{ℕ, suc, _+_, _-_, _<_, _≤_}
 use native.Mathlib.Omega.{arith}
 use lib.Dec.{eqb, ltb}
 use lib.ListN.{length, getD}
@@ -18,7 +18,6 @@ use Rattle.parts.proofs.Reading.{state-sound}
 use Rattle.area.specs.Area.{capacityOf, partsOf}
 use Rattle.area.specs.Stored.{Stored, stateIn}
 use Rattle.store.specs.Store.{IsSlot, slotsAt, NextIs}
-use Rattle.state_check.specs.Check.{stateTest}
 use Rattle.state_check.proofs.State.{state-writes}
 use Rattle.calls.specs.Policy.{policyOf}
 use Rattle.calls.specs.declared.Kind.{Kind}
@@ -27,10 +26,8 @@ use Rattle.opening.specs.Opening.{Holding, Opens}
 use Rattle.opening.specs.declared.Opened.{Opened}
 use Rattle.opening.specs.declared.Opened.the-variants as opened
 use Rattle.listing.specs.Order.{takenFrom, past}
-use Rattle.listing.specs.Steps.{orderIn, recordAt, accepted, planOf, StandsIn, Stands, Follows, StepIs}
+use Rattle.listing.specs.Steps.{orderIn, recordAt, planOf, StandsIn, Stands, Follows, StepIs}
 use Rattle.listing.specs.declared.Listed.the-variants.{Count, Room, Refused}
-use Rattle.listing.specs.declared.Plan.{Plan}
-use Rattle.listing.specs.declared.Step.{Step}
 use Rattle.listing.proofs.Slots.{stands-slot, stands-below, first-arc, first-car, next-arc, next-car}
 use Rattle.listing.proofs.Records.{order-length}
 

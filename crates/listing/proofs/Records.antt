@@ -11,7 +11,7 @@ use borrow.Author.Tests.{lt-ltb}
 use Rattle.rules.specs.Lists.{one, times}
 use Rattle.rules.specs.State.{residents}
 use Rattle.rules.specs.Calls as rules
-use Rattle.rules.specs.Calls.{Answer, Ask, Listing, Number, asked, recordOf}
+use Rattle.rules.specs.Calls.{Ask, Listing, Number, asked, recordOf}
 use Rattle.rules.specs.Arc as arc
 use Rattle.rules.specs.Car as car
 use Rattle.rules.specs.Car.{Car, Resident, slots, bySlot}

@@ -1,12 +1,12 @@
 -- REFUSAL 3 OF A LISTING IS EXACT: it is given exactly when the words are no writing of a well-formed state of the policy, however many records are lent. Assumes nothing.
-use mathlib.Core.Path.{_≡_, sym, ap, _∙_}
+use mathlib.Core.Path.{sym, ap, _∙_}
 use mathlib.Core.Bool.{false≢true}
 use mathlib.Core.List.{List}
 use Prim.Native.Nat.{ℕ}
 use lib.ListN.{length}
 use Rattle.rules.specs.Calls.{Ask, Listing}
 use Rattle.rules.specs.Public.{ListingDone, listed}
-use Rattle.calls.specs.Policy.{Policy, reads}
+use Rattle.calls.specs.Policy.{Policy}
 use Rattle.calls.proofs.Accepting.{is3}
 use Rattle.calls.proofs.Exact.{Exact}
 use Rattle.calls.proofs.Refusing.{Exactly, exactly}

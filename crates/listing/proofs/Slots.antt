@@ -1,12 +1,12 @@
 -- The slots of a listing. In order: each is a slot that is taken; the first, and what comes after a slot, as the code finds them. Assumes nothing.
 use mathlib.Core.Path.{_≡_, refl, sym, ap, _∙_}
-use mathlib.Core.Bool.{Bool, true, false, cond}
+use mathlib.Core.Bool.{cond}
 use mathlib.Core.Logic.{_⊎_, inl, inr, ⊎-elim}
-use mathlib.Core.List.{List, [], _∷_, _++_}
+use mathlib.Core.List.{List, [], _∷_}
 use Prim.Native.Nat.{ℕ, suc, _+_, _-_, _<_, _≤_}
 use native.Mathlib.Omega.{arith}
 use lib.Dec.{eqb, ltb}
-use lib.ListN.{length, getD}
+use lib.ListN.{getD}
 use borrow.Author.Tests.{ltb-true, ltb-false, eqb-true}
 use Rattle.rules.specs.Lists.{one, times}
 use Rattle.rules.specs.Car.{taken}
@@ -14,15 +14,14 @@ use Rattle.rules.proofs.ListLaws.{by-test}
 use Rattle.rings.specs.Members.{Mem, Below}
 use Rattle.rings.proofs.Members.{mem-append}
 use Rattle.parts.specs.Parts.{stateOf}
-use Rattle.parts.proofs.HoldsAs.{slotsOf}
 use Rattle.parts.proofs.Slots.{has-slot}
 use Rattle.area.specs.Area.{partsOf}
 use Rattle.area.specs.Stored.{Stored, stateIn}
-use Rattle.store.specs.Store.{HasSlot, IsSlot, slotsAt, NextIs}
+use Rattle.store.specs.Store.{IsSlot, slotsAt, NextIs}
 use Rattle.store.proofs.Order.{slots-are}
 use Rattle.calls.specs.declared.Kind.{Kind}
 use Rattle.calls.specs.declared.Kind.the-variants as kinds
-use Rattle.listing.specs.Order.{risingFrom, takenFrom, order, past}
+use Rattle.listing.specs.Order.{takenFrom, order, past}
 use Rattle.listing.specs.Steps.{orderIn, StandsIn, Follows}
 use Rattle.listing.proofs.Rising.{rising-first, rising-next, rising-taken}
 use Rattle.listing.proofs.Joined.{mem-getD, joined-first, joined-next}

@@ -1,7 +1,7 @@
 -- The laws that answer the needs of `divisor_of`, `fold` and `belongs`. In order: the divisor; a folded number is small and has the same bucket; a number that is b more than a multiple of k. Assumes nothing.
 use mathlib.Core.Path.{_≡_, refl, sym, ap, _∙_}
 use mathlib.Core.Bool.{true}
-use Prim.Native.Nat.{ℕ, _+_, _*_, _/_, _%_, _^_, _<_, _≤_}
+use Prim.Native.Nat.{ℕ, _+_, _*_, _/_, _%_, _<_, _≤_}
 use native.Mathlib.Omega.{arith}
 use native.Mathlib.Nat.{mod-lt, mul-le-mul, mul-add, add-mul, mul-assoc, mul-comm, div-add-mod', div-mul-le-self, mul-add-mod-self-right}
 use lib.Arith.{digits-mod}

@@ -1,5 +1,5 @@
 -- The walk of a bucket at its last place, the one before the sentinel: it ends well where the sentinel stands after it, and only there. Pages rise, so that a walk which goes on cannot come back. Assumes nothing.
-use mathlib.Core.Path.{_≡_, refl, sym, _∙_}
+use mathlib.Core.Path.{_≡_, refl, _∙_}
 use mathlib.Core.Logic.{inl, inr}
 use mathlib.Core.List.{List, [], _∷_}
 use Prim.Native.Nat.{ℕ, suc, _+_, _<_, _≤_}

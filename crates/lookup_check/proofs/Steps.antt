@@ -7,7 +7,7 @@ use lib.Dec.{eqb}
 use borrow.Author.Tests.{lt-ltb, le-ltb}
 use Rattle.cells.specs.Cells.{nextOf, prevOf}
 use Rattle.lookup.specs.Part.{linksOf}
-use Rattle.lookup_check.specs.declared.Rest.the-variants.{Left, Bad}
+use Rattle.lookup_check.specs.declared.Rest.the-variants.{Bad}
 use Rattle.lookup_check.specs.Check.{suitsTest, closing, walkFrom}
 
 pub walk-over : (w : List ℕ) (m k b left a : ℕ) → left ≡ 0 → nextOf (linksOf m w) a < m → walkFrom w m k b left a ≡ Bad

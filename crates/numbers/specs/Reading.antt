@@ -7,9 +7,8 @@
 -- fault decides, and its place is counted from the number's first byte.
 use Prim.Native.Nat.{ℕ, zero, suc, _+_, _-_, _*_, _%_}
 use mathlib.Core.List.{List, [], _∷_}
-use mathlib.Core.Bool.{Bool, true, false, cond, _&&_}
+use mathlib.Core.Bool.{cond, _&&_}
 use lib.Dec.{ltb, eqb}
-use Rattle.numbers.specs.declared.Fault.{Fault}
 use Rattle.numbers.specs.declared.Fault.the-variants.{Missing, NotShortest, TooLarge}
 use Rattle.numbers.specs.declared.Number.{Number}
 use Rattle.numbers.specs.declared.Number.the-variants.{Value, Faulty}

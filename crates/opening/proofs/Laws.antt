@@ -2,7 +2,7 @@
 use mathlib.Core.Path.{_≡_, refl, sym, _∙_}
 use mathlib.Core.Bool.{Bool, true, false}
 use mathlib.Core.List.{List}
-use Prim.Native.Nat.{ℕ, _+_, _*_, _^_, _<_, _≤_}
+use Prim.Native.Nat.{ℕ, _^_, _<_, _≤_}
 use native.Mathlib.Omega.{arith}
 use lib.ListN.{length, getD}
 use borrow.Author.Needs.{needs}
@@ -11,7 +11,7 @@ use Rattle.area.specs.Area.{capacityOf, endAt}
 use Rattle.area.specs.Stored.{stateIn}
 use Rattle.state_check.specs.Check.{stateTest}
 use Rattle.state_check.proofs.State.{state-writes}
-use Rattle.opening.specs.Opening.{Holding, Opens}
+use Rattle.opening.specs.Opening.{Opens}
 use Rattle.opening.specs.declared.Opened.the-variants.{Cache, Refused}
 
 module _ (kind : ℕ) (w : List ℕ) (b : Bool) (is : b ≡ stateTest kind w) where

@@ -5,11 +5,9 @@ use Prim.Native.Nat.{ℕ}
 use borrow.Author.Needs.{needs}
 use Rattle.rules.specs.Calls as rules
 use Rattle.rules.specs.Calls.{Call, Question, Answer}
-use Rattle.fresh.specs.Fresh.{New}
-use Rattle.fresh.specs.declared.Made as declared
 use Rattle.calls.specs.Policy.{Policy}
 use Rattle.calls.specs.Inner.{Good, Did, Says}
-use Rattle.calls.specs.Outer.{Outcome, Told, Making, madeIs}
+use Rattle.calls.specs.Outer.{Outcome, Told}
 use Rattle.calls.proofs.Exact.{Exact, arc-exact, car-exact}
 use Rattle.calls.proofs.Reading.{good}
 use Rattle.calls.proofs.Passing.{call, call-refused, told, told-refused, making}

@@ -1,17 +1,16 @@
 -- What each operation of a store does to the parts. Assumes nothing.
-use mathlib.Core.Bool.{Bool, true, false, cond}
-use mathlib.Core.List.{List, [], _∷_}
-use Prim.Native.Nat.{ℕ, _+_, _*_}
+use mathlib.Core.Bool.{Bool, true, false}
+use mathlib.Core.List.{List}
+use Prim.Native.Nat.{ℕ}
 use lib.Dec.{eqb}
-use Rattle.rules.specs.State.{Side, first, second}
-use Rattle.cells.specs.Cells.{prevOf}
+use Rattle.rules.specs.State.{Side}
 use Rattle.rules.specs.Stages.{startTarget}
 use Rattle.residents.specs.Changes.{withFrame, withBit, promoted, sentBack, freed, topOf, addedFront, addedEnd, made as madeResidents}
 use Rattle.ghosts.specs.Ghosts.{countOf, recordCell, recorded, forgotten, made as madeGhosts}
 use Rattle.lookup.specs.Buckets.{placesOf, bucketsOf}
 use Rattle.lookup.specs.Lookup.{findOf}
 use Rattle.lookup.specs.Changes.{putIn, taken, renamed, made as madeLookup}
-use Rattle.parts.specs.Parts.{Parts, ghostsOf, setTarget, setResidents, setGhosts, setLookup, ghostPlace}
+use Rattle.parts.specs.Parts.{Parts, ghostsOf, setResidents, setGhosts, setLookup, ghostPlace}
 
 -- the frame, or the bit, of the resident of slot e
 unfoldable pub framed : ℕ → ℕ → Parts → Parts

@@ -1,13 +1,11 @@
 -- The four parts of an area of capacity c together with the target, and the state that they read as. Assumes nothing.
 --
 -- A place of the lookup is a slot (0 to c - 1), c + a cell of B1, or 2c + a cell of B2. A page stands in the lookup alone, at the place of what it belongs to.
-use mathlib.Core.Path.{_≡_}
-use mathlib.Core.List.{List, [], _∷_, map}
+use mathlib.Core.List.{List, map}
 use Prim.Native.Nat.{ℕ, _+_, _*_, _<_, _≤_}
 use lib.Dec.{eqb}
-use lib.ListN.{length}
 use Rattle.rules.specs.State.{entry, Side, first, second, choose}
-use Rattle.rules.specs.Car.{Car, car, Clocked, clocked, Resident}
+use Rattle.rules.specs.Car.{Car, car, clocked, Resident}
 use Rattle.rings.specs.Members.{Mem}
 use Rattle.residents.specs.Residents.{frameOf, bitOf, listsOf, IsResidents}
 use Rattle.ghosts.specs.Ghosts.{liveOf, spareOf, IsGhosts}

@@ -1,16 +1,15 @@
 -- What each operation of a store does to the state that the area reads as, in the words of the rules. Assumes nothing.
 --
 -- Slots name residents here: `residentAt` is the resident of a slot. The rules name them by page.
-use mathlib.Core.Bool.{Bool, true, false, cond}
+use mathlib.Core.Bool.{Bool, false, cond}
 use mathlib.Core.List.{List, [], _∷_, _++_}
-use mathlib.Core.Option.{Option, some, none}
 use Prim.Native.Nat.{ℕ}
 use lib.Dec.{eqb}
 use lib.ListN.{getD, drop}
-use Rattle.rules.specs.State.{Entry, entry, withFrame, without, Lists, Side, first, second, list, setList, setTarget, leaves, changedIn}
-use Rattle.rules.specs.Calls.{Place, ghost}
-use Rattle.rules.specs.Ghosts.{recordIn, removeGhost, dropOldest}
-use Rattle.rules.specs.Car.{Car, car, Clocked, clocked, Resident, withBit, atEnd}
+use Rattle.rules.specs.State.{entry, withFrame, Side, second, list, setList, setTarget, leaves, changedIn}
+use Rattle.rules.specs.Calls.{ghost}
+use Rattle.rules.specs.Ghosts.{recordIn, removeGhost}
+use Rattle.rules.specs.Car.{Car, car, clocked, Resident, withBit, atEnd}
 
 -- the resident of slot k, or, where there is none, one of no page
 abbrev pub noResident : Resident

@@ -9,11 +9,11 @@ use lib.Dec.{eqb}
 use lib.ListN.{length, drop}
 use Rattle.trace.specs.Reading.{whole, refused, operationOf}
 use Rattle.trace.specs.declared.Operation.{Operation}
-use Rattle.trace.proofs.Laws.{sound, Numbered, numbered}
+use Rattle.trace.proofs.Laws.{sound, Numbered}
 use Rattle.rules.specs.Calls.{Call, Done, Answer, Finished, Stopped}
 use Rattle.rules.specs.Batch.{callOf, Batched, stopped, answerThen, runAt, runFrom, batch}
 use Rattle.rules.specs.Program.{textOf, textsOf, told}
-use Rattle.replaying.specs.Pending.{lastAfter, toldAfter}
+use Rattle.replaying.specs.Pending.{toldAfter}
 use borrow.Author.Tests.{ne-eqb}
 
 module _ {S : Type 0} (does : Call → S → Done S) where

@@ -1,23 +1,20 @@
 -- The feed at the start. In order: what was put into the buffer; the feed waits; a cache is made; a refusal. Assumes nothing.
-use mathlib.Core.Path.{_≡_, refl, sym, subst, ap, _∙_}
-use mathlib.Core.Bool.{Bool, true}
+use mathlib.Core.Path.{_≡_, refl, sym, ap, _∙_}
+use mathlib.Core.Bool.{Bool}
 use mathlib.Core.List.{List, [], _++_, append-nil}
-use Prim.Native.Nat.{ℕ, _+_, _^_, _<_, _≤_}
+use Prim.Native.Nat.{ℕ, _+_, _<_, _≤_}
 use native.Mathlib.Omega.{arith}
 use lib.ListN.{length, take, drop, length-append}
 use lib.Seq.{length-take-le, take-at, drop-append-le}
 use borrow.Author.Needs.{needs}
 use Rattle.rules.specs.Calls.{Stopped}
-use Rattle.rules.specs.Batch.{batch}
-use Rattle.rules.specs.Program.{program, textOf}
-use Rattle.lines.specs.Lines.{lineRoom, LineRoom, laid, Put}
+use Rattle.rules.specs.Program.{textOf}
+use Rattle.lines.specs.Lines.{LineRoom, laid, Put}
 use Rattle.calls.specs.declared.Kind.{Kind}
-use Rattle.calls.specs.Policy.{policyOf, stateOf}
-use Rattle.replaying.specs.declared.Replay.{Replay}
 use Rattle.replaying.specs.declared.Replay.the-variants.{Start, Running, Ended}
 use Rattle.replaying.specs.declared.Header.{Header}
 use Rattle.replaying.specs.declared.Header.the-variants.{Cache, Stop}
-use Rattle.replaying.specs.Pending.{pending, toldAfter}
+use Rattle.replaying.specs.Pending.{pending}
 use Rattle.replaying.specs.Header.{headerOf, Sizes, Fresh}
 use Rattle.replaying.specs.Feeding.{needed, Feeds, Wrote}
 use Rattle.replaying.specs.Asked.{Begins}

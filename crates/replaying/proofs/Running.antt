@@ -38,7 +38,7 @@ use Rattle.calls.specs.declared.Kind.{Kind}
 use Rattle.calls.specs.Policy.{Policy, policyOf, stateOf}
 use Rattle.calls.specs.Inner.{Good, Did}
 use Rattle.replaying.specs.declared.Replay.the-variants.{Running, Ended}
-use Rattle.replaying.specs.Pending.{toldAfter, pending, Going}
+use Rattle.replaying.specs.Pending.{toldAfter, pending}
 use Rattle.replaying.specs.Feeding.{needed, Feeds, Wrote}
 use Rattle.replaying.specs.Asked.{Runs}
 use Rattle.replaying.proofs.Batches.{run-end, run-whole, run-refused, told-next, told-end, told-stop}

@@ -2,17 +2,15 @@
 use mathlib.Core.Path.{_≡_, refl, sym, subst}
 use mathlib.Core.Bool.{Bool}
 use mathlib.Core.List.{List, []}
-use Prim.Native.Nat.{ℕ, _+_, _-_, _^_, _<_, _≤_}
+use Prim.Native.Nat.{ℕ, _-_, _^_, _<_, _≤_}
 use native.Mathlib.Omega.{arith}
-use mir.Val.{Fits}
-use mir.Syntax.{w64}
 use lib.ListN.{length}
 use borrow.Author.Needs.{needs}
 use Rattle.lines.specs.Lines.{lineRoom}
 use Rattle.calls.specs.declared.Kind.{Kind}
 use Rattle.replaying.specs.declared.Replay.{Replay}
 use Rattle.replaying.specs.declared.Replay.the-variants.{Start, Running, Ended}
-use Rattle.replaying.specs.Pending.{pending, Ready, offsetOf}
+use Rattle.replaying.specs.Pending.{pending, Ready}
 use Rattle.replaying.specs.Feeding.{Feeds}
 use Rattle.replaying.specs.Asked.{Begins, Goes, Runs}
 use Rattle.replaying.proofs.Beginning.{wrote-nothing}

@@ -4,7 +4,7 @@ use mathlib.Core.Bool.{true, false}
 use mathlib.Core.List.{List, [], _∷_}
 use Prim.Native.Nat.{ℕ}
 use Rattle.cells.specs.Cells.{nextOf, prevOf, withNext, withPrev}
-use Rattle.rings.specs.Rings.{membersFrom, inserted, detached, fronted, ended, emptied, linked, chained, filled}
+use Rattle.rings.specs.Rings.{membersFrom, inserted, detached, fronted, emptied, linked, chained, filled}
 use Rattle.rings.specs.Walks.{joined, ahead, behind, ringTest}
 use Rattle.tails.specs.Tails.{tailOf, withTail}
 use Rattle.residents.specs.Residents as R

@@ -1,25 +1,22 @@
 -- The laws of the changes: what each does to the three lists and to the words of the slots. In order: the reading; to the front of T2; to the end of T2; to the free slots; a new resident; a word of a slot.
 -- Assumes nothing.
-use mathlib.Core.Path.{_≡_, refl, sym, ap, _∙_}
-use mathlib.Core.Logic.{_⊎_, inl, inr}
-use mathlib.Core.List.{List, [], _∷_}
-use Prim.Native.Nat.{ℕ, suc, _+_, _-_, _*_, _^_, _<_, _≤_}
+use mathlib.Core.Path.{_≡_, sym, ap, _∙_}
+use mathlib.Core.List.{List}
+use Prim.Native.Nat.{ℕ, suc, _+_, _-_, _*_, _<_, _≤_}
 use native.Mathlib.Omega.{arith}
-use native.Mathlib.Nat.{not-suc-le-zero}
 use lib.ListN.{length}
-use Rattle.cells.specs.Cells.{nextOf, prevOf}
 use Rattle.rings.specs.Members.{Mem, without}
-use Rattle.rings.specs.Rings.{Ring, Rings, fronted, ended, frontedIn, endedIn, membersOf, CanFront, CanEnd}
+use Rattle.rings.specs.Rings.{fronted, ended, frontedIn, endedIn, CanFront, CanEnd}
 use Rattle.rings.proofs.Members.{below-mem, length-without}
 use Rattle.rings.proofs.Ring.{ring-short}
 use Rattle.rings.proofs.Moves.{length-fronted, length-ended}
 use Rattle.rings.proofs.Family.{rings-same, front-rings, end-rings, can-front-rings, can-end-rings}
-use Rattle.rings.proofs.Reading.{ring-members, first-member, last-is}
-use Rattle.residents.specs.Residents.{linksOf, countOf, frameOf, listOf, bitOf, Room, Slot, total, Residents, listsOf, IsResidents}
-use Rattle.residents.specs.Changes.{withFrame, withList, withBit, withSlot, recounted, shifted, shiftedFront, shiftedEnd, CanRecount, CanShift, promoted, sentBack, freed, topOf, addedFront, addedEnd}
+use Rattle.rings.proofs.Reading.{ring-members}
+use Rattle.residents.specs.Residents.{linksOf, countOf, Slot, Residents, listsOf, IsResidents}
+use Rattle.residents.specs.Changes.{shifted, shiftedFront, shiftedEnd, CanRecount, CanShift}
 use Rattle.residents.proofs.Words as W
 use Rattle.residents.proofs.Words.{Same, Beside}
-use Rattle.residents.proofs.Moves.{Moved, moved-front, moved-end, Over, same-slot, moved-residents}
+use Rattle.residents.proofs.Moves.{moved-front, moved-end, Over, moved-residents}
 
 -- THE READING IS THE ONLY ONE
 pub lists-are : (w : List ℕ) (c : ℕ) (P : ℕ → List ℕ) → Residents w c P → (i : ℕ) → i < 3 → listsOf w c i ≡ P i

@@ -1,6 +1,6 @@
 -- The laws that answer the needs of the checks, in the shape in which the code leaves them. Assumes nothing.
-use mathlib.Core.Path.{_≡_, refl, sym, ap, _∙_}
-use mathlib.Core.Bool.{Bool, true, false, cond}
+use mathlib.Core.Path.{_≡_, refl, sym, _∙_}
+use mathlib.Core.Bool.{Bool, true, false}
 use mathlib.Core.List.{List, [], _∷_}
 use Prim.Native.Nat.{ℕ, _+_, _-_, _*_, _^_, _<_, _≤_}
 use native.Mathlib.Omega.{arith}
@@ -15,7 +15,7 @@ use Rattle.rings.specs.Walks.{joined, ahead, behind, each, ringTest, CanWalk}
 use Rattle.rings.proofs.Walks.{ends-are}
 use Rattle.rings.proofs.Meeting.{Met, met-front, met-end, met-turn, met-none, met-astray, met-one, met-last}
 use Rattle.tails.specs.Tails.{tailOf, Tail}
-use Rattle.residents.specs.Residents.{linksOf, countOf, frameOf, listOf, bitOf, listsOf, Room}
+use Rattle.residents.specs.Residents.{linksOf, countOf, frameOf, listOf, bitOf, listsOf}
 use Rattle.residents.specs.Changes.{HasSlot, HasList}
 use Rattle.residents.specs.Tests.{countsTest, ringAt, slotTest, slotsTest, sideTest, residentsTest, CanStep}
 

@@ -1,7 +1,7 @@
 -- The laws of a slot that goes straight from list to list. In order: a shift after a shift; a slot that is freed is the top one; the exchange of a resident for a new one, in the shape in which
 -- the code leaves it.
 -- Assumes nothing.
-use mathlib.Core.Path.{_≡_, refl, sym, ap, _∙_}
+use mathlib.Core.Path.{_≡_, refl, ap, _∙_}
 use mathlib.Core.List.{List}
 use Prim.Native.Nat.{ℕ, _+_, _-_, _*_, _<_, _≤_}
 use native.Mathlib.Omega.{arith}

@@ -1,16 +1,15 @@
 -- The laws of a part that is made: no residents, and all slots free in rising order. Assumes nothing.
 use mathlib.Core.Path.{_≡_, refl, sym, ap, _∙_}
-use mathlib.Core.Logic.{_⊎_, inl, inr, ⊎-elim}
-use mathlib.Core.List.{List, [], _∷_}
+use mathlib.Core.Logic.{_⊎_, ⊎-elim}
+use mathlib.Core.List.{List, []}
 use Prim.Native.Nat.{ℕ, _+_, _*_, _<_, _≤_}
 use native.Mathlib.Omega.{arith}
-use lib.ListN.{length, getD, set, length-set}
+use lib.ListN.{length, set, length-set}
 use lib.Seq.{getD-set-same, getD-set-other}
 use Rattle.cells.specs.Cells.{In}
 use Rattle.cells.proofs.Laws.{in-below, in-length}
 use Rattle.rings.specs.Members.{Mem, upFrom}
 use Rattle.rings.specs.Rings.{Ring, Rings, emptied, filled, CanFill}
-use Rattle.rings.proofs.Members.{same-or-other}
 use Rattle.rings.proofs.Pigeons.{length-upFrom}
 use Rattle.rings.proofs.Ring.{length-emptied, empty-ring, empty-other}
 use Rattle.rings.proofs.Filling.{length-filled, fill-ring, fill-other}

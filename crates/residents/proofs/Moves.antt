@@ -1,18 +1,17 @@
 -- The laws of a move from list to list. In order: the lists; the counts; the slots; all of it. Assumes nothing.
 use mathlib.Core.Path.{_≡_, refl, sym, ap, _∙_}
-use mathlib.Core.Bool.{Bool, true, false, cond}
 use mathlib.Core.Logic.{_⊎_, inl, inr, ⊎-elim}
 use mathlib.Core.List.{List, [], _∷_, _++_}
-use Prim.Native.Nat.{ℕ, suc, _+_, _-_, _*_, _^_, _<_, _≤_}
+use Prim.Native.Nat.{ℕ, suc, _+_, _-_, _*_, _<_, _≤_}
 use native.Mathlib.Omega.{arith}
 use lib.ListN.{length, getD, set, length-set, length-append}
 use lib.Seq.{getD-set-same, getD-set-other}
 use Rattle.cells.proofs.Laws.{in-length}
-use Rattle.rings.specs.Members.{Mem, Fresh, without}
+use Rattle.rings.specs.Members.{Mem, without}
 use Rattle.rings.specs.Rings.{Rings, changed, outOf, frontedIn, endedIn}
 use Rattle.rings.proofs.Members.{same-or-other, not-mem, mem-without, mem-append, length-without, below-mem}
 use Rattle.rings.proofs.Family.{changed-here, changed-other, detach-fresh}
-use Rattle.residents.specs.Residents.{linksOf, countOf, frameOf, listOf, bitOf, Room, Slot, total, Residents}
+use Rattle.residents.specs.Residents.{linksOf, countOf, Room, Slot, total, Residents}
 use Rattle.residents.specs.Changes.{recounted}
 use Rattle.residents.proofs.Words.{Same}
 

@@ -1,29 +1,27 @@
 -- The laws that answer the needs of the changes, in the shape in which the code leaves them: w is the part at entry, v what it is after a call. Assumes nothing.
 use mathlib.Core.Path.{_≡_, refl, sym, ap, _∙_}
-use mathlib.Core.Logic.{_⊎_, inl, inr, ⊎-elim}
-use mathlib.Core.List.{List, [], _∷_}
-use Prim.Native.Nat.{ℕ, suc, _+_, _-_, _*_, _^_, _<_, _≤_}
+use mathlib.Core.Logic.{_⊎_, inl, ⊎-elim}
+use mathlib.Core.List.{List}
+use Prim.Native.Nat.{ℕ, _+_, _-_, _*_, _<_, _≤_}
 use native.Mathlib.Omega.{arith}
 use lib.ListN.{length, getD, set, length-set}
 use lib.Seq.{getD-set-same, getD-set-other, set-getD, set-set}
 use mir.Syntax.{w64}
 use mir.Val.{Fits}
-use borrow.Author.Needs.{needs}
-use Rattle.cells.specs.Cells.{In, nextOf, prevOf}
+use Rattle.cells.specs.Cells.{In, nextOf}
 use Rattle.cells.proofs.Laws.{in-below, in-length}
 use Rattle.rings.specs.Members.{Mem}
-use Rattle.rings.specs.Rings.{Ring, fronted, ended, emptied, filled, CanFront, CanEnd, CanFill}
+use Rattle.rings.specs.Rings.{Ring, fronted, ended, CanFront, CanEnd}
 use Rattle.rings.specs.Walks.{CanWalk}
 use Rattle.rings.proofs.Members.{same-or-other}
-use Rattle.rings.proofs.Ring.{ring-after, length-emptied}
+use Rattle.rings.proofs.Ring.{ring-after}
 use Rattle.rings.proofs.Moves.{length-fronted, length-ended}
 use Rattle.rings.proofs.Words.{front-stays}
-use Rattle.rings.proofs.Filling.{length-filled}
 use Rattle.rings.proofs.Reading.{first-member}
 use Rattle.tails.specs.Tails.{tailOf, withTail, Tail}
-use Rattle.tails.proofs.Laws.{tail-withTail, withTail-withTail, same-length-withTail, withTail-own}
-use Rattle.residents.specs.Residents.{linksOf, countOf, listOf, Room, Residents, listsOf}
-use Rattle.residents.specs.Changes.{withFrame, withList, withBit, recounted, shifted, shiftedFront, shiftedEnd, CanRecount, CanShift, promoted, sentBack, freed, topOf, addedFront, addedEnd, Added, made, IsResident, CanAdd, HasSlot, HasList}
+use Rattle.tails.proofs.Laws.{withTail-own}
+use Rattle.residents.specs.Residents.{linksOf, countOf, listOf, Room, listsOf}
+use Rattle.residents.specs.Changes.{withFrame, withList, recounted, shifted, shiftedFront, shiftedEnd, CanRecount, CanShift, promoted, IsResident, CanAdd, HasSlot, HasList}
 use Rattle.residents.proofs.Words as W
 use Rattle.residents.proofs.Words.{Beside}
 use Rattle.residents.proofs.Changes.{slot-below, front-asks, end-asks}

@@ -1,21 +1,20 @@
 -- What each change leaves of the words of the slots, and the change of one such word. Assumes nothing.
-use mathlib.Core.Path.{_≡_, refl, sym, ap, _∙_}
-use mathlib.Core.Logic.{_⊎_, inl, inr, ⊎-elim}
+use mathlib.Core.Path.{_≡_, _∙_}
+use mathlib.Core.Logic.{_⊎_, ⊎-elim}
 use mathlib.Core.List.{List}
 use Prim.Native.Nat.{ℕ, _+_, _*_, _^_, _<_, _≤_}
 use native.Mathlib.Omega.{arith}
 use lib.ListN.{length}
-use Rattle.rings.specs.Members.{Mem}
 use Rattle.rings.specs.Rings.{fronted, ended}
 use Rattle.rings.proofs.Members.{same-or-other}
 use Rattle.rings.proofs.Moves.{length-fronted, length-ended}
-use Rattle.residents.specs.Residents.{linksOf, frameOf, listOf, bitOf, Room, Slot, Residents}
+use Rattle.residents.specs.Residents.{linksOf, frameOf, listOf, bitOf, Room, Residents}
 use Rattle.residents.specs.Changes.{withFrame, withList, withBit, withSlot, shifted, shiftedFront, shiftedEnd, promoted, sentBack, freed, topOf, addedFront, addedEnd}
 use Rattle.residents.proofs.Words as W
-use Rattle.residents.proofs.Words.{Same, Beside}
+use Rattle.residents.proofs.Words.{Same}
 use Rattle.residents.proofs.Moves.{same-slot}
 use Rattle.residents.proofs.Changes.{slot-below, beside-residents}
-use Rattle.residents.proofs.Steps.{same-other-slot, frame-written, list-written, bit-written}
+use Rattle.residents.proofs.Steps.{same-other-slot, frame-written, bit-written}
 
 module _ (w : List ℕ) (c e : ℕ) (h : e < c) where
   -- a frame, and a bit, are as they were where the list number or another slot's word is written

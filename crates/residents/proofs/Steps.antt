@@ -1,21 +1,18 @@
 -- The laws of each change of the residents, for the lists and for the words of the slots. Assumes nothing.
-use mathlib.Core.Path.{_≡_, refl, sym, ap, _∙_}
-use mathlib.Core.Logic.{_⊎_, inl, inr, ⊎-elim}
-use mathlib.Core.List.{List, [], _∷_}
-use Prim.Native.Nat.{ℕ, suc, _+_, _-_, _*_, _^_, _<_, _≤_}
+use mathlib.Core.Path.{_≡_, refl, _∙_}
+use mathlib.Core.List.{List}
+use Prim.Native.Nat.{ℕ, _+_, _-_, _*_, _^_, _<_, _≤_}
 use native.Mathlib.Omega.{arith}
 use lib.ListN.{length}
-use Rattle.cells.specs.Cells.{nextOf, prevOf}
 use Rattle.rings.specs.Members.{Mem}
 use Rattle.rings.specs.Rings.{fronted, ended, frontedIn, endedIn}
-use Rattle.rings.proofs.Members.{same-or-other}
 use Rattle.rings.proofs.Moves.{length-fronted, length-ended}
 use Rattle.rings.proofs.Reading.{first-member}
-use Rattle.residents.specs.Residents.{linksOf, countOf, frameOf, listOf, bitOf, Room, Slot, Residents}
+use Rattle.residents.specs.Residents.{linksOf, frameOf, listOf, bitOf, Slot, Residents}
 use Rattle.residents.specs.Changes.{withFrame, withList, withBit, withSlot, shifted, shiftedFront, shiftedEnd, promoted, sentBack, freed, topOf, addedFront, addedEnd}
 use Rattle.residents.proofs.Words as W
 use Rattle.residents.proofs.Words.{Same, Beside}
-use Rattle.residents.proofs.Changes.{slot-below, beside-residents, front-residents, end-residents}
+use Rattle.residents.proofs.Changes.{slot-below, front-residents, end-residents}
 
 same-all : (w : List ℕ) (c x : ℕ) → Same w w c x
 same-all w c x = record { frame = refl; list = refl; bit = refl }

@@ -1,20 +1,17 @@
 -- The test of the residents decides: it is true where the words are those of residents, and only there. In order: a slot; the slots of a list; the counts; all. Assumes nothing.
-use mathlib.Core.Path.{_≡_, refl, sym, ap, _∙_}
+use mathlib.Core.Path.{_≡_, refl, sym}
 use mathlib.Core.Bool.{Bool, true, false, cond, false≢true}
 use mathlib.Core.Logic.{_⊎_, inl, inr, ⊎-elim}
 use mathlib.Core.List.{List, [], _∷_}
-use Prim.Native.Nat.{ℕ, suc, _+_, _*_, _^_, _<_, _≤_}
+use Prim.Native.Nat.{ℕ, _+_, _^_, _<_}
 use native.Mathlib.Omega.{arith}
 use lib.ListN.{length}
 use lib.Dec.{eqb, ltb}
-use borrow.Author.Tests.{eqb-true, ltb-true, ltb-false, eq-eqb, lt-ltb, le-ltb}
-use Rattle.cells.specs.Cells.{In}
+use borrow.Author.Tests.{eqb-true, ltb-true, eq-eqb, lt-ltb, le-ltb}
 use Rattle.cells.proofs.Laws.{in-below}
 use Rattle.rings.specs.Members.{Mem}
-use Rattle.rings.specs.Rings.{Ring, Rings}
-use Rattle.rings.specs.Walks.{ringTest}
-use Rattle.rings.proofs.Ring.{ring-short}
-use Rattle.rings.proofs.Walks.{Counted, test-sound, test-complete}
+use Rattle.rings.specs.Rings.{Ring}
+use Rattle.rings.proofs.Walks.{test-sound, test-complete}
 use Rattle.residents.specs.Residents.{linksOf, countOf, frameOf, listOf, bitOf, Room, Slot, total, Residents, listsOf, IsResidents}
 use Rattle.residents.specs.Tests.{countsTest, ringAt, slotTest, slotsTest, sideTest, residentsTest}
 use Rattle.residents.proofs.Moves.{three}

@@ -1,17 +1,14 @@
 -- The laws of the words of the residents. In order: what a store of one word leaves of a slot, of the counts and of the links; the same of a shift; the words of a slot that is written.
 -- Assumes nothing.
-use mathlib.Core.Path.{_≡_, refl, sym, ap, _∙_}
+use mathlib.Core.Path.{_≡_, sym, ap, _∙_}
 use mathlib.Core.List.{List}
 use Prim.Native.Nat.{ℕ, _+_, _-_, _*_, _<_, _≤_}
 use native.Mathlib.Omega.{arith}
-use lib.ListN.{length, getD, set, length-set}
+use lib.ListN.{length, set, length-set}
 use lib.Seq.{getD-set-same, getD-set-other, set-getD}
-use Rattle.cells.specs.Cells.{In}
-use Rattle.cells.proofs.Laws.{in-length}
-use Rattle.tails.specs.Tails.{tailOf, withTail}
 use Rattle.tails.proofs.Laws.{tail-withTail, tail-set, word-withTail, same-length-withTail}
-use Rattle.residents.specs.Residents.{linksOf, countOf, frameOf, listOf, bitOf, Room}
-use Rattle.residents.specs.Changes.{withFrame, withList, withBit, withSlot, recounted, shifted}
+use Rattle.residents.specs.Residents.{linksOf, countOf, frameOf, listOf, bitOf}
+use Rattle.residents.specs.Changes.{withFrame, withList, withBit, recounted, shifted}
 
 -- v has the words of slot x that w has
 pub record Same (w v : List ℕ) (c x : ℕ) : Type 0 where

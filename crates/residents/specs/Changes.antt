@@ -1,11 +1,11 @@
 -- The changes of the residents, as functions of the words, and what they ask. Assumes nothing.
 use mathlib.Core.Path.{_≡_}
 use mathlib.Core.List.{List}
-use Prim.Native.Nat.{ℕ, _+_, _-_, _*_, _^_, _<_, _≤_}
+use Prim.Native.Nat.{ℕ, _+_, _-_, _*_, _<_, _≤_}
 use lib.ListN.{length, set}
-use Rattle.cells.specs.Cells.{In, nextOf, prevOf}
+use Rattle.cells.specs.Cells.{nextOf}
 use Rattle.rings.specs.Members.{Mem}
-use Rattle.rings.specs.Rings.{fronted, ended, emptied, filled, CanFront, CanEnd}
+use Rattle.rings.specs.Rings.{fronted, ended, emptied, filled}
 use Rattle.tails.specs.Tails.{withTail}
 use Rattle.residents.specs.Residents.{linksOf, countOf, listOf, listsOf, Room, IsResidents}
 

@@ -1,8 +1,8 @@
 -- The residents of a cache of capacity c in a part of words: three counts, the frame, the list number and the reference bit of each slot, then the links of the slots 0 to c - 1 and of the sentinels
 -- c (T1), c + 1 (T2) and c + 2 (the free slots). Lists are numbered: 0 is T1, 1 is T2, 2 the free slots. Assumes nothing.
 use mathlib.Core.Path.{_≡_}
-use mathlib.Core.Bool.{Bool, true, false, cond}
-use mathlib.Core.List.{List, [], _∷_}
+use mathlib.Core.Bool.{cond}
+use mathlib.Core.List.{List}
 use Prim.Native.Nat.{ℕ, _+_, _*_, _^_, _<_, _≤_}
 use lib.ListN.{length, getD}
 use lib.Dec.{eqb}

@@ -1,10 +1,9 @@
 -- The definitions at work: two members, the sentinel is cell 2. A cell's words are the cell after it and the cell before it. Assumes nothing.
 use mathlib.Core.Path.{_≡_, refl}
-use mathlib.Core.Bool.{Bool, true, false}
-use mathlib.Core.List.{List, [], _∷_}
-use Prim.Native.Nat.{ℕ}
+use mathlib.Core.Bool.{true, false}
+use mathlib.Core.List.{[], _∷_}
 use Rattle.cells.specs.Cells.{nextOf, prevOf, withNext, withPrev}
-use Rattle.rings.specs.Rings.{membersFrom, membersOf, inserted, detached, fronted, ended, replaced, emptied, linked, before, chained, filled}
+use Rattle.rings.specs.Rings.{membersFrom, membersOf, inserted, detached, fronted, ended, replaced, linked, chained, filled}
 use Rattle.rings.specs.Walks.{joined, ahead, behind, ringTest}
 
 -- whatever the words were

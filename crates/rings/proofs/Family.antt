@@ -1,16 +1,14 @@
 -- The laws of k rings: ring i is that of the sentinel m + i and has the members P i. In order: a family changed at one ring; the changes; the members of all rings together.
 -- Assumes nothing.
-use mathlib.Core.Path.{_≡_, refl, sym, ap, _∙_}
-use mathlib.Core.Bool.{Bool, true, false, cond}
+use mathlib.Core.Path.{_≡_, refl, sym}
 use mathlib.Core.Logic.{_⊎_, inl, inr, ⊎-elim}
 use mathlib.Core.List.{List, [], _∷_, _++_}
 use Prim.Native.Nat.{ℕ, zero, suc, _+_, _<_, _≤_}
 use native.Mathlib.Omega.{arith}
 use native.Mathlib.Nat.{not-suc-le-zero}
 use lib.ListN.{length}
-use lib.Dec.{eqb}
 use borrow.Author.Tests.{eq-eqb, ne-eqb}
-use Rattle.cells.specs.Cells.{In, nextOf, prevOf}
+use Rattle.cells.specs.Cells.{nextOf}
 use Rattle.rings.specs.Members.{Mem, Fresh, Below, Distinct, without, insertBefore, inPlaceOf}
 use Rattle.rings.specs.Rings.{Ring, Rings, changed, outOf, frontedIn, endedIn, together, membersOf, inserted, detached, fronted, ended, replaced, CanFront, CanEnd}
 use Rattle.rings.proofs.Members.{same-or-other, not-mem, fresh, mem-append, mem-left, mem-right, distinct-append, below-append, fresh-without, below-mem}

@@ -1,14 +1,14 @@
 -- The laws of a ring that is filled: all members, in rising order. Assumes nothing.
 use mathlib.Core.Path.{_≡_, refl, sym, ap, subst, _∙_}
-use mathlib.Core.List.{List, [], _∷_}
+use mathlib.Core.List.{List, []}
 use Prim.Native.Nat.{ℕ, zero, suc, _+_, _<_, _≤_}
 use native.Mathlib.Omega.{arith}
 use native.Mathlib.Numerals.{add-one}
 use lib.ListN.{length}
 use borrow.Author.Needs.{needs}
-use Rattle.cells.specs.Cells.{In, nextOf, prevOf, withNext, withPrev, CanLink}
-use Rattle.cells.proofs.Laws.{cells, in-below, in-length, in-withNext, next-same, next-withPrev, prev-same, length-withNext, length-withPrev}
-use Rattle.rings.specs.Members.{Fresh, upFrom}
+use Rattle.cells.specs.Cells.{In, withNext, withPrev, CanLink}
+use Rattle.cells.proofs.Laws.{in-below, in-length, in-withNext, next-same, next-withPrev, prev-same, length-withNext, length-withPrev}
+use Rattle.rings.specs.Members.{upFrom}
 use Rattle.rings.specs.Rings.{Links, Ring, linked, before, chained, filled, CanFill}
 use Rattle.rings.proofs.Links.{links-snoc, links-withNext, links-withPrev}
 use Rattle.rings.proofs.Pigeons.{upFrom-more, fresh-upFrom, below-upFrom}

@@ -5,13 +5,12 @@ use mathlib.Core.List.{List, [], _∷_}
 use Prim.Native.Nat.{ℕ, suc, _<_, _≤_}
 use native.Mathlib.Omega.{arith}
 use lib.ListN.{length}
-use lib.Dec.{ltb}
-use Rattle.cells.specs.Cells.{In, nextOf, prevOf}
+use Rattle.cells.specs.Cells.{In, nextOf}
 use Rattle.cells.proofs.Laws.{in-below}
-use Rattle.rings.specs.Members.{Mem, Below}
-use Rattle.rings.specs.Rings.{Links, Ring, membersFrom, membersOf}
+use Rattle.rings.specs.Members.{Below}
+use Rattle.rings.specs.Rings.{Links, Ring, membersFrom}
 use Rattle.rings.proofs.Ring.{ring-short}
-use Rattle.rings.proofs.Reading.{follow-links, ring-members}
+use Rattle.rings.proofs.Reading.{follow-links}
 
 -- cur stands on the ring of s: the members from it on lead to s
 pub record Following (w : List ℕ) (m s cur : ℕ) : Type 0 where

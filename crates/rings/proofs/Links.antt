@@ -12,7 +12,7 @@ use Rattle.cells.specs.Cells.{In, nextOf, prevOf, withNext, withPrev}
 use Rattle.cells.proofs.Laws.{cells, in-below, next-other, next-withPrev, prev-other, prev-withNext}
 use Rattle.rings.specs.Members.{Mem, Fresh, Below, Distinct, without, insertBefore}
 use Rattle.rings.specs.Rings.{Links, inserted, detached}
-use Rattle.rings.proofs.Members.{not-mem, fresh, below-fresh}
+use Rattle.rings.proofs.Members.{not-mem, fresh}
 
 -- a store to a cell outside the segment leaves it
 pub links-withNext : (w : List ℕ) (e v a : ℕ) (xs : List ℕ) (b : ℕ) → Fresh e (a ∷ xs) → Links w a xs b → Links (withNext w e v) a xs b

@@ -2,21 +2,20 @@
 -- what a move asks; what it does to the ring it comes to, to the ring it left, and to any other.
 -- The ring that is come to is read after the detach, so that it may be the one that was left.
 -- Assumes nothing.
-use mathlib.Core.Path.{_≡_, refl, sym, ap, _∙_}
+use mathlib.Core.Path.{_≡_, refl, sym, _∙_}
 use mathlib.Core.Bool.{Bool, true, false, cond}
 use mathlib.Core.Logic.{_⊎_, inl, inr, ⊎-elim}
 use mathlib.Core.List.{List, [], _∷_, _++_}
-use Prim.Native.Nat.{ℕ, _<_, _≤_}
-use native.Mathlib.Omega.{arith}
+use Prim.Native.Nat.{ℕ, _<_}
 use lib.ListN.{length}
 use lib.Dec.{eqb}
 use borrow.Author.Tests.{eqb-true, eqb-false, eq-eqb, ne-eqb}
-use Rattle.cells.specs.Cells.{In, nextOf, prevOf}
-use Rattle.rings.specs.Members.{Mem, Fresh, Below, Distinct, without, insertBefore, inPlaceOf}
-use Rattle.rings.specs.Rings.{Links, Ring, inserted, detached, fronted, ended, replaced, CanInsert, CanDetach, CanFront, CanEnd, CanReplace}
+use Rattle.cells.specs.Cells.{nextOf}
+use Rattle.rings.specs.Members.{Mem, Fresh, Distinct, without, insertBefore, inPlaceOf}
+use Rattle.rings.specs.Rings.{Links, Ring, detached, fronted, ended, replaced, CanFront, CanEnd, CanReplace}
 use Rattle.rings.proofs.Members.{not-mem, mem-stays, fresh-less, insert-end}
 use Rattle.rings.proofs.Links.{next-mem, not-after-itself}
-use Rattle.rings.proofs.Ring.{length-inserted, length-detached, ring-fresh, ring-distinct, ring-after, member-below, can-insert, can-detach, insert-ring, detach-ring, apart, insert-other, detach-other}
+use Rattle.rings.proofs.Ring.{length-inserted, length-detached, ring-fresh, ring-distinct, ring-after, member-below, can-insert, can-detach, insert-ring, detach-ring, insert-other, detach-other}
 
 -- before the first is the front
 pub insert-first : (w : List ℕ) (a e : ℕ) (xs : List ℕ) (b : ℕ) → Links w a xs b → insertBefore (nextOf w a) e xs ≡ e ∷ xs

@@ -1,5 +1,5 @@
 -- The laws that answer the needs of the changes, in the shape in which the code leaves them: v is what the words are after a call. Assumes nothing.
-use mathlib.Core.Path.{_≡_, refl, sym, ap, _∙_}
+use mathlib.Core.Path.{_≡_}
 use mathlib.Core.List.{List}
 use Prim.Native.Nat.{ℕ}
 use borrow.Author.Needs.{needs}

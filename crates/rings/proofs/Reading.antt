@@ -1,15 +1,13 @@
 -- The reading of a ring is the only one: its members are found by following next from the sentinel. Assumes nothing.
-use mathlib.Core.Path.{_≡_, refl, sym, ap, _∙_}
-use mathlib.Core.Bool.{Bool, true, false, cond}
-use mathlib.Core.Logic.{_⊎_, inl, inr}
+use mathlib.Core.Path.{_≡_, refl, sym, _∙_}
+use mathlib.Core.Logic.{inl}
 use mathlib.Core.List.{List, [], _∷_}
 use Prim.Native.Nat.{ℕ, zero, suc, _<_, _≤_}
 use native.Mathlib.Omega.{arith}
 use native.Mathlib.Nat.{not-suc-le-zero}
 use lib.ListN.{length}
-use lib.Dec.{ltb}
 use borrow.Author.Tests.{lt-ltb, le-ltb}
-use Rattle.cells.specs.Cells.{In, nextOf, prevOf}
+use Rattle.cells.specs.Cells.{nextOf, prevOf}
 use Rattle.rings.specs.Members.{Below, lastOf, withoutLast, Mem, without}
 use Rattle.rings.specs.Rings.{Links, Ring, follow, membersFrom, membersOf}
 use Rattle.rings.proofs.Pigeons.{last-mem, without-last}

@@ -1,14 +1,14 @@
 -- The laws of one ring, and of another beside it. In order: lengths; the cells that a change leaves; what a ring has; a member put in and taken out;
 -- two rings share nothing; what a change of one ring does to another; what a change asks.
 -- Assumes nothing.
-use mathlib.Core.Path.{_≡_, refl, sym, ap, _∙_}
+use mathlib.Core.Path.{_≡_, sym, _∙_}
 use mathlib.Core.Logic.{_⊎_, inl, inr, ⊎-elim}
 use mathlib.Core.List.{List, [], _∷_}
 use Prim.Native.Nat.{ℕ, _<_, _≤_}
 use native.Mathlib.Omega.{arith}
 use lib.ListN.{length}
-use Rattle.cells.specs.Cells.{In, nextOf, prevOf, withNext, withPrev}
-use Rattle.cells.proofs.Laws.{cells, lengths, in-below, in-length, next-same, next-other, next-withPrev, prev-same, prev-other, prev-withNext}
+use Rattle.cells.specs.Cells.{In, nextOf, prevOf}
+use Rattle.cells.proofs.Laws.{cells, lengths, in-below, in-length, next-other, next-withPrev, prev-other, prev-withNext}
 use Rattle.rings.specs.Members.{Mem, Fresh, Below, Distinct, without, insertBefore}
 use Rattle.rings.specs.Rings.{Links, Ring, inserted, detached, emptied, CanInsert, CanDetach}
 use Rattle.rings.proofs.Members.{not-mem, fresh, below-fresh, below-mem, below-without, below-insert}

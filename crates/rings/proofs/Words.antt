@@ -12,7 +12,7 @@ use Rattle.rings.specs.Members.{Mem, Fresh}
 use Rattle.rings.specs.Rings.{Links, Ring, inserted, detached, fronted, ended, CanInsert}
 use Rattle.rings.proofs.Members.{not-mem}
 use Rattle.rings.proofs.Links.{not-after-itself}
-use Rattle.rings.proofs.Ring.{ring-fresh, ring-after, ring-in, member-below, can-insert}
+use Rattle.rings.proofs.Ring.{ring-fresh, ring-after, ring-in, can-insert}
 
 -- the start stands before the first
 first-back : (w : List ℕ) (a : ℕ) (xs : List ℕ) (b : ℕ) → Links w a xs b → prevOf w (nextOf w a) ≡ a

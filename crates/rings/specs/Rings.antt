@@ -1,7 +1,7 @@
 -- Rings in a part of words: the cells below m are members of at most one ring, the cells from m on are the rings' sentinels.
 -- A ring starts and ends at its sentinel. It keeps no count. Assumes nothing.
 use mathlib.Core.Path.{_≡_}
-use mathlib.Core.Bool.{Bool, true, false, cond}
+use mathlib.Core.Bool.{cond}
 use mathlib.Core.List.{List, [], _∷_, _++_}
 use Prim.Native.Nat.{ℕ, zero, suc, _+_, _<_, _≤_}
 use lib.Dec.{eqb, ltb}

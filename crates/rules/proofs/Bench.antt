@@ -3,21 +3,20 @@
 -- Assumes nothing.
 use mathlib.Core.Path.{_≡_, refl}
 use mathlib.Core.List.{List, [], _∷_, _++_, map}
-use mathlib.Core.Bool.{Bool, true, false, cond}
-use mathlib.Core.Option.{Option, some, none}
+use mathlib.Core.Bool.{cond}
+use mathlib.Core.Option.{some, none}
 use Prim.Native.Nat.{ℕ, _+_, _-_, _^_}
 use lib.ListN.{replicate}
-use Rattle.numbers.specs.declared.Fault.the-variants.{Missing, NotShortest, TooLarge}
+use Rattle.numbers.specs.declared.Fault.the-variants.{NotShortest, TooLarge}
 use Rattle.numbers.specs.declared.Number.{Number}
 use Rattle.numbers.specs.declared.Number.the-variants.{Value, Faulty}
 use Rattle.numbers.specs.Reading.{readFrom, pageOf}
 use Rattle.trace.specs.declared.Checked.{Checked}
-use Rattle.trace.specs.Reading.{operationOf, checkOf}
+use Rattle.trace.specs.Reading.{checkOf}
 use Rattle.trace.specs.Reading as trace
-use Rattle.rules.specs.State.{Entry, pages, Lists, first, second}
-use Rattle.rules.specs.Calls.{run, Call, Get, Insert, Remove, Clear, Ask, Peek, Contains, Len, Listing, ghost, nowhere, nobody, out, Record, recordOf, Answer, Hit, Miss, New, Old, None, Gone, Absent, Cleared, See, No, Holds, Number as Num, Made, Finished, Stopped, Refused}
+use Rattle.rules.specs.State.{pages, Lists, first, second}
+use Rattle.rules.specs.Calls.{run, Call, Get, Insert, Remove, Clear, Ask, Peek, Contains, Len, Listing, ghost, nobody, out, Record, Answer, Hit, New, Gone, Number as Num, Made, Refused}
 use Rattle.rules.specs.Counts.{Counts, counts, noCounts}
-use Rattle.rules.specs.Batch.{runFrom}
 use Rattle.rules.specs.Public.{wordsNeeded, made, called, listed, batched}
 use Rattle.rules.specs.Program.{program, bytes}
 use Rattle.rules.specs.Decimal.{decimal}

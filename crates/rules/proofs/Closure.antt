@@ -1,8 +1,7 @@
 -- Closure: every call on a well-formed state leaves a well-formed state, both policies, any page and frame, capacities 0 to 1,024; and so does
 -- every run of calls, every batch and every public call. `new` makes one.
 -- Assumes nothing.
-use mathlib.Core.Path.{_≡_, refl, sym, subst}
-use mathlib.Core.List.{List, [], _∷_, map}
+use mathlib.Core.List.{List, [], _∷_}
 use Prim.Native.Nat.{ℕ, _≤_}
 use Rattle.rules.specs.Lists.{Each}
 use Rattle.rules.specs.State.{maxCapacity}

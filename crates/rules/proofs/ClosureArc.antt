@@ -1,22 +1,22 @@
 -- Closure of ARC's state rules: every call on a state that obeys them leaves one that does. (Ranges: proofs/Ranges.)
 -- Assumes nothing.
-use mathlib.Core.Path.{_≡_, refl, sym, subst, ap, _∙_}
-use mathlib.Core.List.{List, [], _∷_, _++_}
+use mathlib.Core.Path.{_≡_, refl, ap}
+use mathlib.Core.List.{List, _∷_}
 use mathlib.Core.Bool.{Bool, true, false}
 use mathlib.Core.Option.{Option, some, none}
-use Prim.Native.Nat.{ℕ, zero, suc, _+_, _-_, _*_, _/_, _<_, _≤_}
+use Prim.Native.Nat.{ℕ, _+_, _-_, _*_, _<_, _≤_}
 use native.Mathlib.Omega.{arith}
-use lib.Dec.{ltb, leb, eqb}
+use lib.Dec.{leb, eqb}
 use lib.ListN.{length}
 use borrow.Author.Tests.{eqb-false, leb-true, leb-false}
 use Rattle.rules.specs.Lists.{times, dropLast, last}
-use Rattle.rules.specs.State.{Entry, entry, withFrame, pages, Lists, Side, first, second, list, ghosts, setList, residents, inAll, resident, leaves, full, seen, Sound}
-use Rattle.rules.specs.Calls.{Call, Get, Insert, Remove, Clear, Ask, Place, ghost, nowhere, Done, Replaced, replaceIf, run}
-use Rattle.rules.specs.Ghosts.{recordIn, dropOldest}
+use Rattle.rules.specs.State.{entry, withFrame, pages, Side, first, second, list, setList, residents, inAll, resident, leaves, full}
+use Rattle.rules.specs.Calls.{Call, Get, Insert, Remove, Clear, Ask, Place, ghost, nowhere, Replaced, replaceIf}
+use Rattle.rules.specs.Ghosts.{recordIn}
 use Rattle.rules.specs.Stages.{placeOf, ghostHit, isB2, goesTo, turn, recordPlace}
 use Rattle.rules.specs.Arc.{Arc, Resident, Obeys, new, pushed, toFront, got, putOut, replace, trimBy, trimmed, missed, roomFor, admitted, insertAt, inserted, removed, does}
 use Rattle.rules.proofs.ListLaws.{times-dropLast, length-dropLast, no-last, Plus, cons-plus, last-plus, length-without, length-leave}
-use Rattle.rules.proofs.StateLaws.{Ready, left, entered, Freed, put-out, ready, ready-none, set-sound, turn-some, is-resident, empty-sound, length-recorded, residents-set, seen-ghosts, all-ghosts}
+use Rattle.rules.proofs.StateLaws.{Ready, left, entered, put-out, ready, ready-none, set-sound, turn-some, is-resident, empty-sound, length-recorded, residents-set}
 
 pub new-obeys : (c : ℕ) → Obeys (new c)
 unfolding new

@@ -1,23 +1,23 @@
 -- Closure of CAR's state rules: every call on a state that obeys them leaves one that does. (Ranges: proofs/Ranges.)
 -- Assumes nothing.
-use mathlib.Core.Path.{_≡_, refl, sym, subst, ap, _∙_}
+use mathlib.Core.Path.{_≡_, refl, subst, ap}
 use mathlib.Core.List.{List, [], _∷_, _++_}
 use mathlib.Core.Bool.{Bool, true, false}
 use mathlib.Core.Option.{Option, some, none}
-use Prim.Native.Nat.{ℕ, zero, suc, _+_, _-_, _/_, _<_, _≤_}
+use Prim.Native.Nat.{ℕ, _+_, _-_, _<_, _≤_}
 use native.Mathlib.Omega.{arith}
-use lib.Dec.{ltb, leb, eqb}
+use lib.Dec.{eqb}
 use lib.ListN.{length, length-append, getD, drop}
 use borrow.Author.Tests.{eqb-false, leb-true, leb-false}
 use Rattle.rules.specs.Lists.{one, times}
-use Rattle.rules.specs.State.{Entry, entry, withFrame, pages, found, without, changed, Lists, Side, first, second, list, setList, residents, resident, leaves, full, seen, Sound}
-use Rattle.rules.specs.Calls.{Call, Get, Insert, Remove, Clear, Ask, Place, ghost, nowhere, Done, Replaced, replaceIf, run}
-use Rattle.rules.specs.Stages.{placeOf, ghostHit, isB2, goesTo, turn}
-use Rattle.rules.specs.Car.{Clocked, Resident, clocked, withBit, slots, marks, Car, car, referenced, taken, Obeys, new, atEnd, touched, got, replace, missed, roomFor, admitted, insertAt, inserted, removed, does}
+use Rattle.rules.specs.State.{entry, withFrame, pages, found, without, Side, list, residents, resident, full, seen}
+use Rattle.rules.specs.Calls.{Call, Get, Insert, Remove, Clear, Ask, Place, ghost, nowhere, replaceIf}
+use Rattle.rules.specs.Stages.{placeOf, ghostHit, isB2, goesTo}
+use Rattle.rules.specs.Car.{Resident, clocked, withBit, slots, Car, car, Obeys, new, touched, got, replace, missed, roomFor, admitted, insertAt, inserted, removed, does}
 use Rattle.rules.proofs.ListLaws.{times-append, found-page, times-pages-append, snoc-plus, times-keys-append, key-leaves, without-append, changed-keys}
-use Rattle.rules.proofs.StateLaws.{Ready, left, entered, ready, ready-none, is-resident, empty-sound, changed-sound}
+use Rattle.rules.proofs.StateLaws.{left, entered, ready, ready-none, is-resident, empty-sound, changed-sound}
 use Rattle.rules.proofs.Slots.{all-free, each-once, slotOf, length-slots, taken-set}
-use Rattle.rules.proofs.Sweep.{Swept, replace-swept}
+use Rattle.rules.proofs.Sweep.{replace-swept}
 
 pub new-obeys : (c : ℕ) → Obeys (new c)
 unfolding new

@@ -1,24 +1,23 @@
 -- Demand 3 for CAR: the sum over any calls (`demand-3`, `demand-3-batch`), and each replacement (`demand-3-replacement`).
 -- Assumes nothing.
-use mathlib.Core.Path.{_≡_, refl, sym, subst, ap, _∙_}
+use mathlib.Core.Path.{_≡_, refl, sym, subst}
 use mathlib.Core.List.{List, [], _∷_, _++_, map}
 use mathlib.Core.Bool.{Bool, true, false, cond}
 use mathlib.Core.Option.{Option, some, none}
-use Prim.Native.Nat.{ℕ, zero, suc, _+_, _-_, _<_, _≤_}
+use Prim.Native.Nat.{ℕ, _+_, _-_, _≤_}
 use native.Mathlib.Omega.{arith}
-use lib.Dec.{ltb, leb, eqb}
-use lib.ListN.{length, getD}
-use borrow.Author.Tests.{eqb-false, leb-true, leb-false}
-use Rattle.rules.specs.Lists.{one, times}
-use Rattle.rules.specs.State.{Entry, entry, withFrame, pages, changed, Lists, Side, list, setList, residents, resident, leaves, full, Sound}
-use Rattle.rules.specs.Calls.{Call, Get, Insert, Remove, Clear, Ask, Question, Peek, Contains, Len, Capacity, Target, T1Len, T2Len, B1Len, B2Len, Listing, Place, ghost, nowhere, Answer, Number, Refused, Done, done, seenFrame, asked, Replaced, steps, replaceIf, run}
+use lib.Dec.{ltb, eqb}
+use lib.ListN.{getD}
+use borrow.Author.Tests.{eqb-false, leb-true}
+use Rattle.rules.specs.State.{entry, withFrame, Side, list, residents, resident, full}
+use Rattle.rules.specs.Calls.{Call, Get, Insert, Remove, Clear, Ask, Question, Peek, Contains, Len, Capacity, Target, T1Len, T2Len, B1Len, B2Len, Listing, Place, ghost, nowhere, Number, Refused, Done, done, seenFrame, asked, Replaced, steps, replaceIf, run}
 use Rattle.rules.specs.Stages.{placeOf, ghostHit, goesTo, isB2}
 use Rattle.rules.specs.Counts.{Counts, counted, tally, hits, outs}
 use Rattle.trace.specs.Reading.{readFrom}
 use Rattle.rules.specs.Batch.{callOf, batch}
-use Rattle.rules.specs.Car.{Clocked, Resident, clocked, withBit, marks, Car, car, referenced, Obeys, WellFormed, new, touched, got, replace, missed, roomFor, admitted, insertAt, inserted, removed, does}
+use Rattle.rules.specs.Car.{Resident, clocked, withBit, Car, car, referenced, Obeys, WellFormed, new, touched, got, replace, missed, roomFor, admitted, insertAt, inserted, removed, does}
 use Rattle.rules.proofs.Slots.{changed-marks, marks-without, marks-append, referenced-set}
-use Rattle.rules.proofs.Sweep.{held, goes, Swept, replace-swept}
+use Rattle.rules.proofs.Sweep.{held, goes, replace-swept}
 use Rattle.rules.proofs.RunLaws.{batch-runs}
 use Rattle.rules.proofs.Trail.{TurnsOnce, turns-once}
 use Rattle.rules.proofs.ClosureCar.{does-obeys}

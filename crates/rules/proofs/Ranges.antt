@@ -1,17 +1,17 @@
 -- Pages stay below 2^64, frames below 2^32 and the capacity within 1,024: every call in range leaves a state in range, both policies.
 -- In order: what the policies share; ARC; CAR.
 -- Assumes nothing.
-use mathlib.Core.Path.{_≡_, refl, sym, subst, ap}
+use mathlib.Core.Path.{_≡_, refl, subst}
 use mathlib.Core.List.{List, [], _∷_, _++_}
 use mathlib.Core.Bool.{Bool, true, false}
 use mathlib.Core.Option.{Option, some, none}
 use Prim.Native.Nat.{ℕ, zero, suc, _+_, _*_, _≤_}
 use lib.Dec.{eqb, leb}
 use lib.ListN.{length, getD}
-use Rattle.rules.specs.Lists.{dropLast, last, leave, Each}
-use Rattle.rules.specs.State.{Entry, entry, withFrame, without, changed, Lists, Side, first, second, list, ghosts, setTarget, setList, setGhosts, inAll, full, resident, leaves, changedIn, maxCapacity, IsPage, IsFrame, Fits, Ranged}
-use Rattle.rules.specs.Calls.{Call, Get, Insert, Remove, Clear, Ask, InRange, Place, ghost, nowhere, Done, Replaced, replaceIf}
-use Rattle.rules.specs.Ghosts.{recorded, recordIn, removeGhost, dropOldest}
+use Rattle.rules.specs.Lists.{last, Each}
+use Rattle.rules.specs.State.{Entry, entry, withFrame, Lists, Side, first, second, list, ghosts, setTarget, setList, setGhosts, inAll, full, resident, leaves, changedIn, maxCapacity, IsPage, IsFrame, Fits, Ranged}
+use Rattle.rules.specs.Calls.{Call, Get, Insert, Remove, Clear, Ask, InRange, Place, ghost, nowhere, Replaced, replaceIf}
+use Rattle.rules.specs.Ghosts.{recordIn, removeGhost, dropOldest}
 use Rattle.rules.specs.Stages.{emptied, placeOf, ghostHit, isB2, goesTo, turn, recordPlace}
 use Rattle.rules.specs.Arc
 use Rattle.rules.specs.Car

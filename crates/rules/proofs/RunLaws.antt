@@ -1,11 +1,11 @@
 -- A batch, the calls of its operations, and the trace check agree, for any bytes and either policy.
 -- Assumes nothing.
-use mathlib.Core.Path.{_≡_, refl, sym, ap, _∙_}
+use mathlib.Core.Path.{_≡_, refl, ap}
 use mathlib.Core.List.{List, [], _∷_, map}
 use Prim.Native.Nat.{ℕ, zero, suc, _+_, _-_}
 use lib.ListN.{length}
 use Rattle.trace.specs.Reading.{Parsed, whole, refused, operationOf, Reading, readAt, readFrom, checkOf}
-use Rattle.rules.specs.Calls.{Call, Done, Ran, run}
+use Rattle.rules.specs.Calls.{Call, Done, run}
 use Rattle.rules.specs.Counts.{counted, plus, tally}
 use Rattle.rules.specs.Batch.{callOf, Batched, runAt, runFrom, batch}
 

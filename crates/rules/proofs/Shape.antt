@@ -1,18 +1,18 @@
 -- Shape facts for the layers above, stated once for both policies: a page is in at most one list; lengths after each stage; how many are resident
 -- after each call; how long a listing is.
 -- Assumes nothing.
-use mathlib.Core.Path.{_≡_, refl, sym, subst, ap, _∙_}
-use mathlib.Core.List.{List, [], _∷_, _++_, map}
-use mathlib.Core.Bool.{Bool, true, false, cond}
+use mathlib.Core.Path.{_≡_, refl, ap}
+use mathlib.Core.List.{[], _∷_, _++_}
+use mathlib.Core.Bool.{Bool, true, false}
 use mathlib.Core.Option.{Option, some, none}
-use Prim.Native.Nat.{ℕ, zero, suc, _+_, _-_, _*_, _<_, _≤_, min}
+use Prim.Native.Nat.{ℕ, _+_, _-_, _*_, _≤_, min}
 use native.Mathlib.Omega.{arith}
-use lib.Dec.{ltb, leb, eqb}
+use lib.Dec.{leb, eqb}
 use lib.ListN.{length, getD, length-append, length-take}
-use borrow.Author.Tests.{eqb-true, eqb-false, ltb-true, ltb-false, leb-true, leb-false}
-use Rattle.rules.specs.Lists.{one, times, dropLast, last}
-use Rattle.rules.specs.State.{Entry, entry, pages, Lists, Side, first, second, list, ghosts, setList, residents, full, resident, leaves, changedIn, Sound}
-use Rattle.rules.specs.Calls.{Call, Get, Insert, Remove, Clear, Ask, Place, ghost, nowhere, recordOf, Done, Replaced, replaceIf}
+use borrow.Author.Tests.{eqb-false, leb-true, leb-false}
+use Rattle.rules.specs.Lists.{times, dropLast, last}
+use Rattle.rules.specs.State.{Entry, entry, pages, Lists, Side, first, second, list, ghosts, residents, full, resident, leaves, Sound}
+use Rattle.rules.specs.Calls.{Call, Get, Insert, Remove, Clear, Ask, Place, ghost, nowhere, Replaced, replaceIf}
 use Rattle.rules.specs.Ghosts.{recordIn, dropOldest}
 use Rattle.rules.specs.Stages.{placeOf, ghostHit, isB2, goesTo, turn}
 use Rattle.rules.specs.Arc

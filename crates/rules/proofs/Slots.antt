@@ -1,18 +1,17 @@
 -- Laws of CAR's slots and reference bits.
 -- Assumes nothing.
-use mathlib.Core.Path.{_≡_, refl, sym, subst, ap, _∙_}
+use mathlib.Core.Path.{_≡_, refl, sym, ap, _∙_}
 use mathlib.Core.List.{List, [], _∷_, _++_}
-use mathlib.Core.Bool.{Bool, true, false, cond}
-use mathlib.Core.Option.{Option, some, none}
+use mathlib.Core.Bool.{false, cond}
 use Prim.Native.Nat.{ℕ, zero, suc, _+_, _-_, _<_, _≤_}
 use native.Mathlib.Omega.{arith}
 use lib.Dec.{ltb, eqb}
-use lib.ListN.{length, length-append}
+use lib.ListN.{length}
 use borrow.Author.Tests.{eqb-true, eqb-false, lt-ltb, le-ltb, ltb-true, ltb-false, ne-eqb}
 use Rattle.rules.specs.Lists.{one, times, leave, countFrom}
-use Rattle.rules.specs.State.{Entry, pages, found, without, changed, Lists, Side, first, second, list, setList, residents}
-use Rattle.rules.specs.Car.{Clocked, Resident, withBit, slots, marks, referenced, taken}
-use Rattle.rules.proofs.ListLaws.{by-test, either, one-self, one-other, one-le, times-append, times-leave-self, times-leave-other, length-leave}
+use Rattle.rules.specs.State.{pages, without, changed, Lists, Side, first, second, list, setList}
+use Rattle.rules.specs.Car.{Clocked, Resident, slots, marks, referenced, taken}
+use Rattle.rules.proofs.ListLaws.{by-test, either, one-self, one-other, one-le, times-leave-self, times-leave-other, length-leave}
 
 -- ---- the slots 0, 1, 2 and so on
 from-below : (k a n : ℕ) → k < a → times k (countFrom a n) ≡ 0

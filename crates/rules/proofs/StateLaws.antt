@@ -1,20 +1,20 @@
 -- Laws of what the policies share.
 -- Assumes nothing.
-use mathlib.Core.Path.{_≡_, refl, sym, subst, ap, _∙_}
-use mathlib.Core.List.{List, [], _∷_, _++_}
-use mathlib.Core.Bool.{Bool, true, false, cond, _&&_, _||_}
-use mathlib.Core.Option.{Option, some, none}
-use Prim.Native.Nat.{ℕ, zero, suc, _+_, _-_, _*_, _/_, _<_, _≤_, min}
+use mathlib.Core.Path.{_≡_, refl, subst, ap}
+use mathlib.Core.List.{List, _∷_, _++_}
+use mathlib.Core.Bool.{Bool, true, false, _||_}
+use mathlib.Core.Option.{some, none}
+use Prim.Native.Nat.{ℕ, zero, suc, _+_, _-_, _<_, _≤_}
 use native.Mathlib.Omega.{arith}
-use lib.Dec.{ltb, leb, eqb}
-use lib.ListN.{length, take, length-take}
-use borrow.Author.Tests.{eqb-true, eqb-false, ltb-true, ltb-false, leb-true, leb-false}
-use Rattle.rules.specs.Lists.{one, times, holds, leave, dropLast, last}
-use Rattle.rules.specs.State.{Entry, pages, found, without, Lists, Side, first, second, choose, list, ghosts, setTarget, setList, setGhosts, residents, inAll, resident, leaves, changedIn, full, seen, Sound}
-use Rattle.rules.specs.Calls.{Place, ghost, nowhere}
-use Rattle.rules.specs.Ghosts.{recorded, recordIn, removeGhost, dropOldest}
-use Rattle.rules.specs.Stages.{startTarget, emptied, place, placeOf, stepOf, aimed, ghostHit, prefersT1, fromT1, side, turn, recordPlace}
-use Rattle.rules.proofs.ListLaws.{either, one-self, one-other, times-take, times-dropLast, length-dropLast, times-leave-self, times-leave-other, length-leave, times-pages-append, length-without, without-self, without-other, found-page, found-times, found-none, changed-keys, changed-length, Plus}
+use lib.Dec.{eqb}
+use lib.ListN.{length, length-take}
+use borrow.Author.Tests.{eqb-true, eqb-false, ltb-true, ltb-false}
+use Rattle.rules.specs.Lists.{times, holds, leave}
+use Rattle.rules.specs.State.{Entry, pages, Lists, Side, first, second, choose, list, ghosts, setList, setGhosts, residents, inAll, resident, leaves, changedIn, seen, Sound}
+use Rattle.rules.specs.Calls.{ghost, nowhere}
+use Rattle.rules.specs.Ghosts.{recorded, recordIn}
+use Rattle.rules.specs.Stages.{emptied, place, placeOf, aimed, ghostHit, prefersT1, fromT1, side, turn, recordPlace}
+use Rattle.rules.proofs.ListLaws.{either, one-self, one-other, times-take, times-leave-self, times-leave-other, length-leave, times-pages-append, length-without, without-self, without-other, found-page, found-times, found-none, changed-keys, changed-length, Plus}
 
 -- ---- the test of a replacement: the list that it chooses is not empty, where there is a resident
 or-no : (a b : Bool) → (a || b) ≡ false → b ≡ false

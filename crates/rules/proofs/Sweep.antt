@@ -1,22 +1,20 @@
 -- CAR's sweep: what a replacement does to a state with a resident.
 -- Assumes nothing.
-use mathlib.Core.Path.{_≡_, refl, sym, subst, ap, _∙_}
+use mathlib.Core.Path.{_≡_, refl, sym, subst, ap}
 use mathlib.Core.List.{List, [], _∷_, _++_}
-use mathlib.Core.Bool.{Bool, true, false, cond}
-use mathlib.Core.Option.{Option, some, none}
-use Prim.Native.Nat.{ℕ, zero, suc, _+_, _-_, _<_, _≤_}
+use mathlib.Core.Bool.{Bool, true, false}
+use Prim.Native.Nat.{ℕ, zero, suc, _+_, _-_, _≤_}
 use native.Mathlib.Omega.{arith}
-use lib.Dec.{ltb, eqb}
-use lib.ListN.{length, length-append, replicate}
+use lib.Dec.{eqb}
+use lib.ListN.{length, length-append}
 use Rattle.rules.specs.Lists.{one, times}
-use Rattle.rules.specs.State.{Entry, pages, Lists, Side, first, second, list, setList, residents, seen, Sound, Ranged}
+use Rattle.rules.specs.State.{pages, Lists, Side, first, second, list, setList, residents, seen}
 use Rattle.rules.specs.Calls.{Victim, nobody, out, Replaced, steps}
-use Rattle.rules.specs.Ghosts.{recordIn}
 use Rattle.rules.specs.Stages.{turn}
 use Rattle.rules.specs.Counts.{outs}
-use Rattle.rules.specs.Car.{Clocked, Resident, withBit, slots, marks, Car, referenced, taken, Obeys, atEnd, Hand, empty, at, handOf, hand, passed, evicted, stepThen, stepBy, step, lastStep, sweep, replace}
-use Rattle.rules.proofs.ListLaws.{by-test, Plus, cons-plus, snoc-plus, times-keys-append}
-use Rattle.rules.proofs.StateLaws.{Freed, put-out, turn-some, residents-set, seen-set}
+use Rattle.rules.specs.Car.{Clocked, Resident, withBit, slots, marks, Car, referenced, taken, Obeys, handOf, passed, evicted, stepThen, stepBy, step, lastStep, sweep, replace}
+use Rattle.rules.proofs.ListLaws.{Plus, cons-plus, snoc-plus, times-keys-append}
+use Rattle.rules.proofs.StateLaws.{put-out, turn-some, residents-set, seen-set}
 use Rattle.rules.proofs.Slots.{slotOf, marks-append, taken-set, referenced-set}
 
 -- ---- how often a page stands among the residents; and whether it is a victim's

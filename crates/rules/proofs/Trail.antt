@@ -1,17 +1,16 @@
 -- The sweep step by step: the count of referenced residents that bounds its recursion does not show; it turns at most once.
 -- Assumes nothing.
-use mathlib.Core.Path.{_≡_, refl, sym, subst, ap, _∙_}
+use mathlib.Core.Path.{_≡_, refl, ap, _∙_}
 use mathlib.Core.List.{List, [], _∷_, _++_}
 use mathlib.Core.Bool.{Bool, true, false}
-use Prim.Native.Nat.{ℕ, zero, suc, _+_, _-_, _<_, _≤_}
+use Prim.Native.Nat.{ℕ, zero, suc, _+_, _-_}
 use native.Mathlib.Omega.{arith}
 use lib.ListN.{length, length-append, replicate}
 use Rattle.rules.specs.Lists.{one}
-use Rattle.rules.specs.State.{Lists, Side, first, second, list, residents}
-use Rattle.rules.specs.Calls.{Replaced, steps}
+use Rattle.rules.specs.State.{Side, first, second, list}
+use Rattle.rules.specs.Calls.{Replaced}
 use Rattle.rules.specs.Stages.{fromT1, side, turn}
-use Rattle.rules.specs.Car.{Clocked, Resident, withBit, Car, referenced, Hand, empty, at, handOf, hand, passed, evicted, stepThen, stepBy, step, lastStep, sweep, replace}
-use Rattle.rules.proofs.ListLaws.{by-test}
+use Rattle.rules.specs.Car.{Resident, withBit, Car, referenced, at, handOf, hand, passed, evicted, stepThen, stepBy, step, lastStep, sweep, replace}
 use Rattle.rules.proofs.Sweep.{Passed, pass-law, none-marked}
 
 -- ---- a replacement is one step at the hand and then, where that evicted nobody, a replacement

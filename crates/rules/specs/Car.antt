@@ -1,5 +1,5 @@
 -- CAR (01, "CAR"; src/policy/car.rs): two clocks, recent (T1) and frequent (T2), each a sequence starting at its hand. Assumes nothing.
-use Prim.Native.Nat.{ℕ, zero, suc, _+_, _≤_}
+use Prim.Native.Nat.{ℕ, zero, suc, _+_}
 use mathlib.Core.Path.{_≡_}
 use mathlib.Core.List.{List, [], _∷_, _++_, map}
 use mathlib.Core.Bool.{Bool, true, false, cond}
@@ -7,7 +7,7 @@ use mathlib.Core.Option.{Option, some, none}
 use lib.Dec.{ltb, eqb}
 use lib.ListN.{getD, drop}
 use Rattle.rules.specs.Lists.{one, times, countFrom}
-use Rattle.rules.specs.State.{Entry, entry, withFrame, Lists, Side, first, second, list, setList, full, resident, leaves, changedIn, Sound, Ranged}
+use Rattle.rules.specs.State.{Entry, entry, withFrame, Lists, Side, second, list, setList, full, resident, leaves, changedIn, Sound, Ranged}
 use Rattle.rules.specs.Calls.{Call, Get, Insert, Remove, Clear, Ask, Place, ghost, nowhere, nobody, out, Record, recordOf, Hit, Miss, New, Old, None, Gone, Absent, Cleared, Done, done, asked, Replaced, replaced, steps, replaceIf}
 use Rattle.rules.specs.Ghosts.{recordIn}
 use Rattle.rules.specs.Stages.{emptied, placeOf, ghostHit, isB2, goesTo, turn, recordPlace}

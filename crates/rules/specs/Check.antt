@@ -1,11 +1,11 @@
 -- The state rules as tests of a state that compute: each is true of the well-formed states of its policy, and of no others (proofs/CheckLaws). Assumes nothing.
 use Prim.Native.Nat.{ℕ, zero, suc, _+_, _*_, _^_}
 use mathlib.Core.List.{List, [], _∷_, _++_, map}
-use mathlib.Core.Bool.{Bool, true, false, not, _&&_}
+use mathlib.Core.Bool.{Bool, true, not, _&&_}
 use lib.Dec.{ltb, leb, eqb}
 use lib.ListN.{length}
 use Rattle.rules.specs.Lists.{times, holds}
-use Rattle.rules.specs.State.{Entry, pages, Lists, residents, inAll, maxCapacity}
+use Rattle.rules.specs.State.{pages, Lists, residents, inAll, maxCapacity}
 use Rattle.rules.specs.Arc.{Arc}
 use Rattle.rules.specs.Car.{Car, slots}
 

@@ -1,6 +1,6 @@
 -- The ghost list (01, "Ghost list"): newest first, at most c pages. Assumes nothing.
 use Prim.Native.Nat.{ℕ}
-use mathlib.Core.List.{List, [], _∷_}
+use mathlib.Core.List.{List, _∷_}
 use lib.ListN.{take}
 use Rattle.rules.specs.Lists.{leave, dropLast}
 use Rattle.rules.specs.State.{Lists, Side, ghosts, setGhosts}

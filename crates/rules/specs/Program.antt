@@ -13,7 +13,7 @@ use Rattle.numbers.specs.declared.Frame.{Frame}
 use Rattle.numbers.specs.declared.Frame.the-variants.{Value as FrameValue, Faulty as FrameFaulty}
 use Rattle.numbers.specs.Reading.{readFrom, frameOf}
 use Rattle.trace.specs.Reading.{faultNumber, faultPlace}
-use Rattle.rules.specs.State.{Side, first, second}
+use Rattle.rules.specs.State.{first, second}
 use Rattle.rules.specs.Calls.{Place, ghost, nowhere, Victim, nobody, out, Answer, Hit, Miss, New, Old, None, Gone, Absent, Cleared, See, No, Holds, Number, Made, Finished, Stopped, Refused}
 use Rattle.rules.specs.Batch.{Batched, runFrom, batch, answerOf}
 use Rattle.rules.specs.Decimal.{decimal}

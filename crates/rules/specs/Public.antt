@@ -2,7 +2,7 @@
 --
 -- An area is handed in as what it reads as: a well-formed state of the policy that is called, or nothing.
 use Prim.Native.Nat.{ℕ, _+_, _*_}
-use mathlib.Core.List.{List, [], _∷_, _++_}
+use mathlib.Core.List.{List, _++_}
 use mathlib.Core.Bool.{cond}
 use mathlib.Core.Option.{Option, some, none}
 use lib.Dec.{ltb}
@@ -10,7 +10,7 @@ use lib.ListN.{length, drop}
 use Rattle.rules.specs.State.{maxCapacity}
 use Rattle.rules.specs.Calls.{Call, Ask, Listing, Record, Answer, Made, Refused, Done, done}
 use Rattle.rules.specs.Counts.{Counts}
-use Rattle.rules.specs.Batch.{Batched, runFrom, batch, answerOf}
+use Rattle.rules.specs.Batch.{runFrom, batch, answerOf}
 
 -- "`new` needs 24c + 64 words"
 abbrev pub wordsNeeded : ℕ → ℕ

@@ -1,7 +1,7 @@
 -- What the policies share of an insert (01, "ARC"): where the page is, the target, the ghost hit, and the choice of the list to replace from.
 -- Assumes nothing.
 use Prim.Native.Nat.{ℕ, _+_, _-_, _/_, min}
-use mathlib.Core.List.{List, [], _∷_}
+use mathlib.Core.List.{[]}
 use mathlib.Core.Bool.{Bool, true, false, _&&_, _||_}
 use lib.Dec.{ltb, eqb}
 use lib.ListN.{length}

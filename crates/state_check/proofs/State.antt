@@ -15,7 +15,7 @@ use Rattle.rules.specs.Car.{Car}
 use Rattle.parts.specs.Parts.{Parts, Holds, stateOf}
 use Rattle.area.specs.Area.{kindOf, capacityOf, targetOf, endAt, partsOf}
 use Rattle.area.specs.Stored.{stateIn, arcOf, Writes}
-use Rattle.state_check.specs.Check.{rowCount, liveCount, listsTest, heldTest, deadTest, sumsTest, partsTest, stateTest}
+use Rattle.state_check.specs.Check.{rowCount, liveCount, listsTest, deadTest, sumsTest, partsTest, stateTest}
 use Rattle.state_check.specs.Reading.{FormedBy, Formed, reading}
 use Rattle.area.proofs.Rooms.{have-room}
 use Rattle.state_check.proofs.Lists.{both}

@@ -1,6 +1,6 @@
 -- A ghost list gives a cell for a page that is to be recorded. Assumes nothing.
 use mathlib.Core.Path.{_≡_, refl, sym, ap, _∙_}
-use mathlib.Core.Bool.{true, false}
+use mathlib.Core.Bool.{true}
 use mathlib.Core.List.{List}
 use Prim.Native.Nat.{ℕ, _<_, _≤_}
 use native.Mathlib.Omega.{arith}
@@ -10,7 +10,7 @@ use Rattle.ghosts.proofs.Recording.{record-cell}
 use Rattle.lookup.specs.Buckets.{placesOf}
 use Rattle.lookup.specs.Changes.{taken, CanTake}
 use Rattle.parts.specs.Parts.{Parts, ghostsOf, setGhosts, setLookup, ghostPlace}
-use Rattle.parts.specs.Changes.{recordPlaceOf, isFull, clearedFor}
+use Rattle.parts.specs.Changes.{recordPlaceOf, isFull}
 use Rattle.parts.proofs.HoldsAs.{liveIn, spareIn}
 use Rattle.parts.proofs.Slots.{has-slot}
 use Rattle.parts.proofs.Cells.{gives}

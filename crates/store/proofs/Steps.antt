@@ -1,6 +1,6 @@
 -- One call after another on an area, and the parts that the second call meets. In order: the parts by their names; the parts after a call; a call on the lookup after a call.
 -- Assumes nothing.
-use mathlib.Core.Path.{_≡_, refl, sym, ap, _∙_}
+use mathlib.Core.Path.{_≡_, refl, ap, _∙_}
 use mathlib.Core.List.{List}
 use Prim.Native.Nat.{ℕ, zero, suc, _<_}
 use native.Mathlib.Omega.{arith}

@@ -1,12 +1,11 @@
 -- The laws of the words from a on. In order: what the code's lends are; the tail and the words before it, of a part whose tail or word was changed. Assumes nothing.
 use mathlib.Core.Path.{_≡_, refl, sym, ap, _∙_}
-use mathlib.Core.List.{List, [], _∷_, _++_, append-nil}
-use Prim.Native.Nat.{ℕ, zero, suc, _+_, _-_, _<_, _≤_}
+use mathlib.Core.List.{List, _++_, append-nil}
+use Prim.Native.Nat.{ℕ, _+_, _-_, _<_, _≤_}
 use native.Mathlib.Omega.{arith}
-use lib.ListN.{length, getD, set, take, drop, length-append, length-drop, length-set, take-append-drop, List·getD-append}
-use lib.Seq.{take-at, drop-at, length-take-le, drop-length, drop-set-lt, take-set-lt, getD-take, getD-drop, take-take, getD-set-same, getD-set-other, set-append-left}
+use lib.ListN.{length, getD, set, take, drop, length-append, length-drop, take-append-drop, List·getD-append}
+use lib.Seq.{take-at, drop-at, length-take-le, drop-length, drop-set-lt, take-set-lt, getD-take, getD-drop, set-append-left}
 use borrow.Rule.Slice.PartAt.{part-to-end}
-use borrow.Rule.Slice.PartMut.{putMid}
 use Rattle.tails.specs.Tails.{tailOf, withTail}
 
 -- what is lent, and what comes back

@@ -6,7 +6,6 @@ use Prim.Native.Nat.{ℕ, _<_}
 use lib.ListN.{length}
 use borrow.Author.Needs.{needs}
 use borrow.Author.Tests.{lt-ltb}
-use Rattle.rules.specs.Calls as rules
 use Rattle.rules.specs.Calls.{Answer, Get}
 use Rattle.answers.specs.Answers.{gotIs}
 use Rattle.answers.specs.declared.Got as got

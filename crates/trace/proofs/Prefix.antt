@@ -1,7 +1,6 @@
 -- An operation depends only on its first sixteen bytes: where these are there, what follows them changes nothing. Assumes nothing.
-use mathlib.Core.Path.{_≡_, refl, sym, ap, _∙_}
+use mathlib.Core.Path.{_≡_, refl, ap, _∙_}
 use mathlib.Core.List.{List, _++_}
-use mathlib.Core.Bool.{cond}
 use Prim.Native.Nat.{ℕ, _+_, _≤_}
 use native.Mathlib.Omega.{arith}
 use lib.ListN.{length, drop, length-drop}
@@ -12,7 +11,7 @@ use Rattle.numbers.specs.declared.Number.the-variants.{Value, Faulty}
 use Rattle.numbers.specs.declared.Frame.{Frame}
 use Rattle.numbers.proofs.Bounds.{page-bounds}
 use Rattle.numbers.proofs.Prefix.{page-prefix, frame-prefix}
-use Rattle.trace.specs.Reading.{Parsed, withFrame, withBoth, operationOf}
+use Rattle.trace.specs.Reading.{withFrame, withBoth, operationOf}
 use Rattle.trace.proofs.Arms.{byCode}
 
 -- a page, which was read as r, and then a frame

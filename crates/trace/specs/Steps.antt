@@ -5,7 +5,6 @@
 use Prim.Native.Nat.{ℕ, _+_}
 use mathlib.Core.List.{List, [], _∷_}
 use lib.ListN.{drop}
-use Rattle.trace.specs.declared.Cursor.{Cursor}
 use Rattle.trace.specs.declared.Found.{Found}
 use Rattle.trace.specs.declared.Found.the-variants.{Read, End, Refused}
 use Rattle.trace.specs.declared.Step.{Step}

@@ -2,7 +2,6 @@
 use Rattle.operations.proofs.Laws.{laws}
 use Rattle.operations.proofs.clear.Statement.{statement}
 use Rattle.operations.proofs.clear.Tie as tie
-use Rattle.car.proofs.clear.Reads as clear-reads′
 
 enum-told : tie.Need-enum-told
 enum-told c = search laws

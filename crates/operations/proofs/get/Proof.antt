@@ -2,7 +2,6 @@
 use Rattle.operations.proofs.Laws.{laws}
 use Rattle.operations.proofs.get.Statement.{statement}
 use Rattle.operations.proofs.get.Tie as tie
-use Rattle.car.proofs.get.Reads as get-reads′
 
 enum-told : tie.Need-enum-told
 enum-told c = search laws

@@ -2,7 +2,6 @@
 use Rattle.operations.proofs.Laws.{laws}
 use Rattle.operations.proofs.insert.Statement.{statement}
 use Rattle.operations.proofs.insert.Tie as tie
-use Rattle.car.proofs.insert.Reads as insert-reads′
 
 enum-told : tie.Need-enum-told
 enum-told c = search laws

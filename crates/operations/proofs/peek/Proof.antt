@@ -2,7 +2,6 @@
 use Rattle.operations.proofs.Laws.{laws}
 use Rattle.operations.proofs.peek.Statement.{statement}
 use Rattle.operations.proofs.peek.Tie as tie
-use Rattle.car.proofs.peek.Reads as peek-reads′
 
 enum-told : tie.Need-enum-told
 enum-told c = search laws

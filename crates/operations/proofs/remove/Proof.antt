@@ -2,7 +2,6 @@
 use Rattle.operations.proofs.Laws.{laws}
 use Rattle.operations.proofs.remove.Statement.{statement}
 use Rattle.operations.proofs.remove.Tie as tie
-use Rattle.car.proofs.remove.Reads as remove-reads′
 
 enum-told : tie.Need-enum-told
 enum-told c = search laws

@@ -1,5 +1,5 @@
 -- `residents::add_end` meets its contract. The first of the free slots is free. Assumes nothing.
-use Rattle.residents.specs.Changes.{addedEnd, topOf, Added}
+use Rattle.residents.specs.Changes.{addedEnd, topOf}
 use Rattle.residents.proofs.Needs.{free-end, taken-end}
 use borrow.Author.Needs.{needs}
 use Rattle.residents.proofs.add_end.Statement.{statement}

@@ -1,5 +1,5 @@
 -- `residents::add_front` meets its contract. The first of the free slots is free. Assumes nothing.
-use Rattle.residents.specs.Changes.{addedFront, topOf, Added}
+use Rattle.residents.specs.Changes.{addedFront, topOf}
 use Rattle.residents.proofs.Needs.{free-front, taken-front}
 use borrow.Author.Needs.{needs}
 use Rattle.residents.proofs.add_front.Statement.{statement}
