@@ -1,7 +1,6 @@
 // The parts of the two ghost lists of an area, by their side.
 ghost use mathlib.Core.Path.{_≡_};
-ghost use Prim.Native.Nat.{_+_, _*_, _<_, _≤_};
-ghost use lib.ListN.{length};
+ghost use Prim.Native.Nat.{_+_, _*_, _<_};
 ghost use Rattle.cells.specs.Cells.{prevOf};
 ghost use Rattle.ghosts.specs.Ghosts.{countOf, linksOf, recordCell, recorded, forgotten, CanRecord, CanForget};
 ghost use Rattle.parts.specs.Parts.{setGhosts};

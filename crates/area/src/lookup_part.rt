@@ -1,8 +1,7 @@
 // The lookup's part of an area. Word 3 of the header has the hint for its buckets, which no answer depends on.
 ghost use mathlib.Core.Path.{_≡_};
-ghost use Prim.Native.Nat.{_+_, _*_, _<_, _≤_};
+ghost use Prim.Native.Nat.{_+_, _*_, _<_};
 ghost use lib.Dec.{eqb};
-ghost use lib.ListN.{length};
 ghost use Rattle.cells.specs.Cells.{prevOf};
 ghost use Rattle.lookup.specs.Buckets.{bucketsOf, placesOf};
 ghost use Rattle.lookup.specs.Part.{pageOf, linksOf};

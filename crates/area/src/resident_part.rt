@@ -1,7 +1,6 @@
 // The residents' part of an area.
 ghost use mathlib.Core.Path.{_≡_};
-ghost use Prim.Native.Nat.{_+_, _*_, _<_, _≤_};
-ghost use lib.ListN.{length};
+ghost use Prim.Native.Nat.{_+_, _*_, _<_};
 ghost use Rattle.cells.specs.Cells.{nextOf, prevOf};
 ghost use Rattle.residents.specs.Residents.{linksOf, countOf, frameOf, listOf, bitOf};
 ghost use Rattle.residents.specs.Changes.{withFrame, withBit, promoted, sentBack, freed, topOf, addedFront, addedEnd, IsResident, CanAdd, CanExchange};

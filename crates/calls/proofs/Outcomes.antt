@@ -1,20 +1,18 @@
--- What a contract says of an area that reads as a state. In order: what words read as; a call; a question, which leaves the area; `new`; a call keeps the capacity.
+-- What a contract says of an area that reads as a state. In order: what words read as; a call; a question, which leaves the area; `new`.
 -- Assumes nothing.
-use mathlib.Core.Path.{_≡_, refl, subst, ap, _∙_}
+use mathlib.Core.Path.{_≡_, refl, ap, _∙_}
 use mathlib.Core.Bool.{Bool, true, false, cond}
 use mathlib.Core.List.{List}
 use mathlib.Core.Logic.{_⊎_, inl, inr}
 use mathlib.Core.Option.{Option, some, none}
-use Prim.Native.Nat.{ℕ, _^_, _<_}
+use Prim.Native.Nat.{ℕ}
 use native.Mathlib.Omega.{arith}
 use lib.Dec.{ltb}
-use lib.ListN.{length, getD}
-use Rattle.rules.specs.Calls.{Call, Question, Capacity, Ask, Answer, Number, Made, Refused, done}
+use lib.ListN.{length}
+use Rattle.rules.specs.Calls.{Call, Question, Ask, Answer, Made, Refused, done}
 use Rattle.rules.specs.State.{maxCapacity}
 use Rattle.rules.specs.Public.{wordsNeeded, made, called}
-use Rattle.parts.specs.Parts as parts
 use Rattle.area.specs.Area.{capacityOf}
-use Rattle.area.specs.Stored.{stateIn}
 use Rattle.state_check.specs.Check.{stateTest}
 use Rattle.calls.specs.Policy.{Policy, stateOf, reads}
 use Rattle.calls.specs.Outer.{Outcome, Told, Making}
@@ -29,15 +27,6 @@ module _ (P : Policy) where
       by : (t : Bool) → stateTest (P .kind) w ≡ t → cond t (some (stateOf P (capacityOf w) w)) none ≡ some s → (stateTest (P .kind) w ≡ true) × (stateOf P (capacityOf w) w ≡ s)
       by true q e = (q, cc)
       by false q e = absurd (let z : _≡_ {A = ℕ} 0 1 = cc in let x : ⊥ = omega arith in x)
-
-  -- and s is well formed
-  pub reads-well : Exact P → (w : List ℕ) (s : P .State) → ((i : ℕ) → getD w i 0 < 2 ^ 64) → reads P w ≡ some s → P .WellFormed s
-  reads-well e w s words r = let q = reads-is w s r in subst (P .WellFormed) (q .1) (e .sound w words (q .0))
-
-  -- its capacity is that of the header
-  reads-capacity : Exact P → (w : List ℕ) (s : P .State) → reads P w ≡ some s → P .does (Ask Capacity) s .answer ≡ Number (capacityOf w)
-  unfolding stateIn parts.stateOf
-  reads-capacity e w s r = let q = reads-is w s r in subst (λ t. P .does (Ask Capacity) t .answer ≡ Number (capacityOf w)) (q .1) (e .capacity (stateIn (capacityOf w) w))
 
   -- A CALL ON A STATE answers and leaves what the rules say
   pub outcome-is : (k : Call) (w v : List ℕ) (a : Answer) (s : P .State) → Outcome P k w v a → reads P w ≡ some s → (a ≡ P .does k s .answer) × (reads P v ≡ some (P .does k s .state))
@@ -65,15 +54,3 @@ module _ (P : Policy) where
       by true y q = inr (ap (λ d. d .state) q)
       by false true q = inr (ap (λ d. d .state) q)
       by false false q = inl (ap (λ d. d .state) q)
-
-  -- READ BACK: a call keeps the capacity
-  pub read-back : Exact P → (k : Call) (w v : List ℕ) (a : Answer) → Outcome P k w v a → capacityOf v ≡ capacityOf w
-  read-back e k w v a o = by (reads P w) refl
-    where
-      by : (r : Option (P .State)) → reads P w ≡ r → capacityOf v ≡ capacityOf w
-      by none q = ap capacityOf (o .refused q)
-      by (some s) q =
-          let x = reads-capacity e v (P .does k s .state) (outcome-is k w v a s o q .1) in
-          let y = reads-capacity e w s q in
-          let z = e .keeps k s in
-          cc

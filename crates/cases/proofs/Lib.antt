@@ -1,2 +1,1 @@
--- The laws of `cases`. Assumes nothing.
-pub mod Laws
+-- The proofs of `cases`. Assumes nothing.

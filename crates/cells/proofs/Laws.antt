@@ -4,7 +4,7 @@
 -- Assumes nothing.
 use mathlib.Core.Path.{_≡_, sym, ap, _∙_}
 use mathlib.Core.List.{List}
-use Prim.Native.Nat.{ℕ, suc, _+_, _*_, _<_, _≤_}
+use Prim.Native.Nat.{ℕ, _+_, _*_, _<_, _≤_}
 use native.Mathlib.Omega.{arith}
 use lib.ListN.{length, set, length-set}
 use lib.Seq.{getD-set-same, getD-set-other, set-set, set-comm, set-getD}
@@ -14,10 +14,6 @@ use Rattle.cells.specs.Cells.{wordsOf, Cells, In, nextOf, prevOf, withNe
 pub in-cells : (w : List ℕ) (n e : ℕ) → Cells w n → e < n → In w e
 unfolding Cells In wordsOf
 in-cells w n e h l = omega arith
-
-pub cells-in : (w : List ℕ) (n : ℕ) → In w n → Cells w (suc n)
-unfolding Cells In wordsOf
-cells-in w n h = omega arith
 
 pub in-below : (w : List ℕ) (n e : ℕ) → In w n → e ≤ n → In w e
 unfolding In

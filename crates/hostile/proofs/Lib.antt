@@ -1,2 +1,1 @@
--- The laws of `hostile`. Assumes nothing.
-pub mod Laws
+-- The proofs of `hostile`. Assumes nothing.

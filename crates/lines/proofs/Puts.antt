@@ -24,14 +24,6 @@ put-byte w at x h = record { buffer = sets-eq (x ∷ []) w at (omega arith); pas
 pub put-length : (w v : List ℕ) (at : ℕ) (text : List ℕ) (r : ℕ) → Put w v at text r → Room w at text → length v ≡ length w
 put-length w v at text r p h = ap length (p .buffer) ∙ length-laid at text w h
 
--- the position behind the text is one of the buffer, for a caller that knows only that the buffer is as long as it was
-pub put-within : (w v : List ℕ) (at : ℕ) (text : List ℕ) (r : ℕ) → Put w v at text r → at ≤ length w → length v ≡ length w → r ≤ length v
-unfolding laid
-put-within w v at text r p h same =
-    let front = take at w ++ text in
-    let sizes : length v ≡ length front + length (drop (at + length text) w) = ap length (p .buffer) ∙ length-append front (drop (at + length text) w) in
-    omega (arith, p .past, length-append (take at w) text, length-take-le at w h)
-
 -- ---- a text behind another
 laid-then : (at : ℕ) (a b w : List ℕ) → at ≤ length w → laid (at + length a) b (laid at a w) ≡ laid at (a ++ b) w
 unfolding laid

@@ -5,7 +5,7 @@ ghost use mathlib.Core.Path.{_≡_};
 ghost use mathlib.Core.Bool.{cond};
 ghost use Prim.Native.Nat.{_+_, _-_, _≤_};
 ghost use lib.Dec.{eqb};
-ghost use lib.ListN.{length, getD};
+ghost use lib.ListN.{getD};
 ghost use Rattle.area.specs.Stored.{Stored, stateIn};
 ghost use Rattle.store.specs.Store.{slotsAt};
 ghost use Rattle.calls.specs.Policy.{policyOf};

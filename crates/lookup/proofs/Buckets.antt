@@ -3,8 +3,7 @@ use mathlib.Core.Path.{_≡_}
 use Prim.Native.Nat.{ℕ, _+_, _*_, _<_}
 use native.Mathlib.Omega.{arith}
 use native.Mathlib.Nat.{mod-lt}
-use Rattle.cells.specs.Cells.{wordsOf}
-use Rattle.lookup.specs.Buckets.{bucketOf, bucketsOf, wordsNeeded}
+use Rattle.lookup.specs.Buckets.{bucketOf, bucketsOf}
 
 pub bucket-below : (k p : ℕ) → 0 < k → bucketOf k p < k
 unfolding bucketOf
@@ -18,7 +17,3 @@ buckets-some c = omega arith
 pub buckets-count : (c : ℕ) → bucketsOf c ≡ 3 * c + 1
 unfolding bucketsOf
 buckets-count c = omega arith
-
-pub words-needed : (c : ℕ) → wordsNeeded c ≡ 15 * c + 2
-unfolding wordsNeeded wordsOf bucketsOf
-words-needed c = omega arith

@@ -1,13 +1,13 @@
 -- The lookup holds exactly the live places, by counting. xs are the live places; the others are dead. Assumes nothing.
 use mathlib.Core.Path.{_≡_}
-use mathlib.Core.Bool.{true, false}
+use mathlib.Core.Bool.{true}
 use mathlib.Core.Logic.{_⊎_, inl, inr, ⊎-elim}
 use mathlib.Core.List.{List, [], _∷_}
 use Prim.Native.Nat.{ℕ, _<_, _≤_}
 use native.Mathlib.Omega.{arith}
 use lib.ListN.{length}
 use lib.Dec.{eqb}
-use borrow.Author.Tests.{eqb-true, eq-eqb, ne-eqb}
+use borrow.Author.Tests.{eqb-true, eq-eqb}
 use Rattle.cells.specs.Cells.{prevOf}
 use Rattle.rings.specs.Members.{Mem, Fresh, Distinct}
 use Rattle.rings.proofs.Members.{same-or-other}
@@ -24,10 +24,6 @@ dead-told w m x e = eqb-true (prevOf (linksOf m w) x) x e
 pub tell-dead : (w : List ℕ) (m x : ℕ) → Dead w m x → eqb (prevOf (linksOf m w) x) x ≡ true
 unfolding Dead
 tell-dead w m x d = eq-eqb (prevOf (linksOf m w) x) x d
-
-pub held-told : (w : List ℕ) (m k x : ℕ) → Lookup w m k → Held w m k x → eqb (prevOf (linksOf m w) x) x ≡ false
-unfolding Dead
-held-told w m k x t j = ne-eqb (prevOf (linksOf m w) x) x (λ q. dead-unheld w m k (bucketIn w m) t x q j)
 
 mem-or-fresh : (z : ℕ) (xs : List ℕ) → Mem z xs ⊎ Fresh z xs
 mem-or-fresh z [] = inr tt

@@ -1,8 +1,6 @@
--- The laws of the lookup. For callers: Exactly (what a caller carries, and what each change makes of it), Look and Answers (an answer is a plain
--- search, before and after each change), Counts (the live places are held, by counting), Table (the reading; places held, dead places; room).
--- Below them: Putting, Taking, Renaming and Making say what each change asks and does; Rising and Part are about lists and words; Needs, Dividing
--- and Finding answer the needs of the code. Assumes nothing.
-pub mod Answers
+-- The laws of the lookup. For callers: Exactly (the places held, by counting), Look (an answer is a plain search), Counts (the live places are held, by counting), Table (the reading; places held, dead places; room).
+-- Below them: Putting, Taking, Renaming and Making say what each change asks and does; Rising and Part are about lists and words; Needs, Dividing,
+-- Belonging and Finding answer the needs of the code. Assumes nothing.
 pub mod Belonging
 pub mod Buckets
 pub mod Cases

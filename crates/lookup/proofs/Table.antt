@@ -7,13 +7,13 @@ use native.Mathlib.Omega.{arith}
 use lib.ListN.{length, drop, length-drop}
 use Rattle.cells.specs.Cells.{withPrev}
 use Rattle.cells.proofs.Laws.{in-cells, cells-length, cells-words, in-length, length-withPrev}
-use Rattle.rings.specs.Members.{Mem, Fresh, Below, Distinct}
+use Rattle.rings.specs.Members.{Mem, Fresh, Distinct}
 use Rattle.rings.specs.Rings.{Rings, changed, together}
 use Rattle.rings.proofs.Members.{same-or-other, fresh}
 use Rattle.rings.proofs.Links.{links-withPrev}
 use Rattle.rings.proofs.Ring.{member-below, member-held}
 use Rattle.rings.proofs.Reading.{ring-members}
-use Rattle.rings.proofs.Family.{changed-here, changed-other, rings-read, mem-together, together-mem, together-same, together-distinct, together-below, together-short}
+use Rattle.rings.proofs.Family.{changed-here, changed-other, rings-read, mem-together, together-mem, together-same, together-distinct}
 use Rattle.lookup.specs.Buckets.{bucketOf, bucketsOf, placesOf, wordsNeeded}
 use Rattle.lookup.specs.Part.{pageOf, linksOf, Room}
 use Rattle.lookup.specs.Lookup.{Rising, seek, Table, bucketIn, Lookup, placesIn, Held, Dead, findOf, CanFind}
@@ -80,12 +80,6 @@ module _ (w : List ℕ) (m k : ℕ) (P : ℕ → List ℕ) (t : Table w m k P) w
 
   pub places-distinct : Distinct (placesIn w m k)
   places-distinct = rw places-are (together-distinct (linksOf m w) m k P (t .rings))
-
-  pub places-below : Below m (placesIn w m k)
-  places-below = rw places-are (together-below (linksOf m w) m k P (t .rings))
-
-  pub places-short : length (placesIn w m k) ≤ m
-  places-short = rw places-are (together-short (linksOf m w) m k P (t .rings))
 
   -- of two places that are held the pages differ
   pub held-unique : (x y : ℕ) → Held w m k x → Held w m k y → pageOf w x ≡ pageOf w y → x ≡ y

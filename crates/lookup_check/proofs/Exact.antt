@@ -12,14 +12,14 @@ use lib.Dec.{eqb, ltb, leb}
 use borrow.Author.Tests.{eqb-true, ltb-true, leb-true, eq-eqb, lt-ltb, le-ltb, le-leb}
 use Rattle.cells.specs.Cells.{nextOf, prevOf}
 use Rattle.cells.proofs.Laws.{in-cells}
-use Rattle.rings.specs.Members.{Mem, Fresh, Below, Distinct}
+use Rattle.rings.specs.Members.{Mem, Fresh, Below}
 use Rattle.rings.specs.Rings.{Links, Ring, together, membersOf}
 use Rattle.rings.proofs.Members.{same-or-other}
 use Rattle.rings.proofs.Reading.{ring-members}
 use Rattle.lookup.specs.Buckets.{bucketOf}
 use Rattle.lookup.specs.Part.{pageOf, linksOf, Room}
 use Rattle.lookup.specs.Lookup.{Rising, Table, bucketIn, placesIn, Dead, Exactly}
-use Rattle.lookup.proofs.Exactly.{counted-exactly, exactly-count}
+use Rattle.lookup.proofs.Exactly.{counted-exactly}
 use Rattle.lookup_check.specs.declared.Rest.{Rest}
 use Rattle.lookup_check.specs.declared.Rest.the-variants.{Left, Bad}
 use Rattle.lookup_check.specs.Check.{leastAfter, suitsTest, closing, walkFrom, walkOf, walkOn, walksOf, usedUp, lookupTest, Holding}
@@ -169,6 +169,3 @@ test-sound w m k live room = go (walksOf w m k live k) refl
 -- and with the live places xs, where the others are dead
 pub test-exactly : (w : List ℕ) (m k : ℕ) (xs : List ℕ) → Room w m k → ((z : ℕ) → z < m → Fresh z xs → Dead w m z) → lookupTest w m k (length xs) ≡ true → Exactly w m k xs
 test-exactly w m k xs room dead q = let h = test-sound w m k (length xs) room q in counted-exactly w m k xs (h .table) dead (h .count)
-
-pub exactly-test : (w : List ℕ) (m k : ℕ) (xs : List ℕ) → Exactly w m k xs → Distinct xs → lookupTest w m k (length xs) ≡ true
-exactly-test w m k xs e d = test-complete w m k (length xs) (record { table = e .table; count = exactly-count w m k xs e d })

@@ -1,6 +1,5 @@
 // The way from any words to an inner call: the state check, and the capacity of the cache that the words hold. ARC's public calls and CAR's
 // start here, with the kind 1 and 2.
-ghost use mathlib.Core.Path.{_≡_};
 ghost use Rattle.opening.specs.Opening.{Opens};
 
 // The capacity of the cache in an area, or refusal 3.

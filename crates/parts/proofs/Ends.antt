@@ -1,7 +1,5 @@
--- The resident at an end of its list leaves. In order: by the rules of any sound state, `leaves` is then the list without its first, or its last; the slots at the ends of a list; what a resident that goes from an end leaves behind, in
--- the words of ARC's and CAR's replacement. Assumes nothing.
+-- The resident at an end of its list leaves. In order: by the rules of any sound state, `leaves` is then the list without its first, or its last; the slots at the ends of a list. Assumes nothing.
 use mathlib.Core.Path.{_≡_, refl, sym, ap, _∙_}
-use mathlib.Core.Bool.{false}
 use mathlib.Core.Option.{some}
 use mathlib.Core.List.{List, [], _∷_, _++_, map, append-nil}
 use Prim.Native.Nat.{ℕ, _+_, _<_, _≤_}
@@ -10,20 +8,15 @@ use native.Mathlib.Nat.{not-suc-le-zero}
 use lib.ListN.{length, drop}
 use Rattle.rules.specs.Lists.{times, dropLast, last}
 use Rattle.rules.specs.State.{Entry, pages, without, Lists, Side, first, second, list, setList, leaves, seen, Sound}
-use Rattle.rules.specs.Ghosts.{recordIn}
-use Rattle.rules.specs.Stages.{recordPlace}
-use Rattle.rules.specs.Car.{car, Clocked, withBit, atEnd, passed, evicted}
 use Rattle.rules.proofs.ListLaws.{eqb-self, one-self, split-last, times-pages-append, without-append, without-none}
 use Rattle.cells.specs.Cells.{nextOf, prevOf}
 use Rattle.rings.specs.Members.{Mem}
 use Rattle.rings.proofs.Reading.{first-is, first-member, last-is, last-member}
 use Rattle.residents.specs.Residents.{linksOf}
 use Rattle.parts.specs.Parts.{Parts, numberOf, Holds, residentOf, stateOf}
-use Rattle.parts.specs.States.{endedAt, evictedAt}
 use Rattle.parts.proofs.Maps.{last-map}
 use Rattle.parts.proofs.Sides.{number-below}
 use Rattle.parts.proofs.HoldsAs.{slotsOf}
-use Rattle.parts.proofs.Reading.{slot-is, resident-at, state-sound}
 use Rattle.parts.proofs.Lists.{list-is}
 
 -- ---- the rules
@@ -79,18 +72,6 @@ module _ (c : ℕ) (p : Parts) (h : Holds c p) (s : Side) (e : ℕ) (some-slot :
     pub first-list : list s (stateOf c p .lists) ≡ residentOf c p e ∷ map (residentOf c p) (drop 1 (slotsOf c p (numberOf s)))
     first-list = list-is s c p ∙ ap (map (residentOf c p)) (at-first (slotsOf c p (numberOf s)) some-slot refl is)
 
-    rest-is : leaves (residentOf c p e .page) (stateOf c p .lists) ≡ setList s (map (residentOf c p) (drop 1 (slotsOf c p (numberOf s)))) (stateOf c p .lists)
-    rest-is = leaves-first (stateOf c p .lists) (state-sound c p h) s (residentOf c p e) (map (residentOf c p) (drop 1 (slotsOf c p (numberOf s)))) first-list
-
-    -- CAR: it is passed over, or put out
-    pub ended-passed : endedAt e (stateOf c p) ≡ passed s (residentOf c p e) (map (residentOf c p) (drop 1 (slotsOf c p (numberOf s)))) (stateOf c p)
-    unfolding endedAt
-    ended-passed = rw (resident-at c p (numberOf s) e (number-below s) first-slot) (ap (λ (l : Lists Clocked). car (atEnd second (withBit false (residentOf c p e)) l) (stateOf c p .free)) rest-is)
-
-    pub evicted-first : evictedAt s e (stateOf c p) ≡ evicted s (residentOf c p e) (map (residentOf c p) (drop 1 (slotsOf c p (numberOf s)))) (stateOf c p) .state
-    unfolding evictedAt
-    evicted-first = rw (resident-at c p (numberOf s) e (number-below s) first-slot, slot-is c p e) (ap (λ (l : Lists Clocked). car (recordIn (recordPlace s) (residentOf c p e .page) l) (e ∷ stateOf c p .free)) rest-is)
-
   -- THE LAST, the oldest of a list
   module _ (is : e ≡ prevOf (linksOf c (p .residents)) (c + numberOf s)) where
     pub last-slot : Mem e (slotsOf c p (numberOf s))
@@ -98,8 +79,3 @@ module _ (c : ℕ) (p : Parts) (h : Holds c p) (s : Side) (e : ℕ) (some-slot :
 
     pub last-list : last (list s (stateOf c p .lists)) ≡ some (residentOf c p e)
     last-list = ap last (list-is s c p) ∙ at-last (slotsOf c p (numberOf s)) some-slot refl is
-
-    -- ARC: it is put out
-    pub evicted-last : evictedAt s e (stateOf c p) ≡ car (recordIn (recordPlace s) (residentOf c p e .page) (setList s (dropLast (list s (stateOf c p .lists))) (stateOf c p .lists))) (e ∷ stateOf c p .free)
-    unfolding evictedAt
-    evicted-last = rw (resident-at c p (numberOf s) e (number-below s) last-slot) (ap (λ (l : Lists Clocked). car (recordIn (recordPlace s) (residentOf c p e .page) l) (e ∷ stateOf c p .free)) (leaves-last (stateOf c p .lists) (state-sound c p h) s (residentOf c p e) last-list))

@@ -6,7 +6,7 @@ use mathlib.Core.List.{List, [], _∷_, _++_, map}
 use Prim.Native.Nat.{ℕ, _+_, _<_, _≤_}
 use native.Mathlib.Omega.{arith}
 use native.Mathlib.Nat.{not-suc-le-zero}
-use lib.ListN.{length, getD, drop, length-map}
+use lib.ListN.{length, getD, drop}
 use lib.Dec.{eqb}
 use Rattle.rules.specs.State.{Side, first, second, list, setList, residents}
 use Rattle.rules.specs.Car.{Car, car, Resident}
@@ -15,7 +15,7 @@ use Rattle.rings.specs.Rings.{Ring, changed}
 use Rattle.rings.proofs.Members.{mem-without, without-first, not-mem}
 use Rattle.rings.proofs.Family.{changed-here, changed-other}
 use Rattle.rings.proofs.Reading.{first-is, first-member}
-use Rattle.residents.specs.Residents.{linksOf, Residents, total, frameOf, bitOf}
+use Rattle.residents.specs.Residents.{linksOf, Residents, frameOf, bitOf}
 use Rattle.residents.specs.Changes.{topOf, CanAdd}
 use Rattle.residents.proofs.Words.{Same}
 use Rattle.lookup.specs.Buckets.{bucketsOf, placesOf}
@@ -56,16 +56,6 @@ pub record Adds (c : ℕ) (p : Parts) (s : Side) (f b : ℕ) (v xs : List ℕ) :
   pub same : (z : ℕ) → z < c → (z ≡ topOf c (p .residents) → ⊥) → Same (p .residents) v c z
   pub frame : frameOf v (topOf c (p .residents)) ≡ f
   pub bit : bitOf v c (topOf c (p .residents)) ≡ b
-
-module _ (c : ℕ) (p : Parts) (h : Holds c p) where
-  -- there is a free slot where there are fewer residents than slots
-  pub has-room : residents (stateOf c p .lists) < c → 0 < length (slotsOf c p 2)
-  unfolding stateOf
-  has-room l =
-      let t : total (slotsOf c p) ≡ c = h .residents .all in
-      let a : length (map (residentOf c p) (slotsOf c p 0)) ≡ length (slotsOf c p 0) = length-map (slotsOf c p 0) (residentOf c p) in
-      let b : length (map (residentOf c p) (slotsOf c p 1)) ≡ length (slotsOf c p 1) = length-map (slotsOf c p 1) (residentOf c p) in
-      omega arith
 
 module _ (c : ℕ) (p : Parts) (h : Holds c p) (some : 0 < length (slotsOf c p 2)) where
   a : HoldsAs c p (slotsOf c p) (liveIn c p) (spareIn c p)

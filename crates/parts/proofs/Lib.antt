@@ -19,6 +19,5 @@ pub mod Entering
 pub mod Adding
 pub mod Ends
 pub mod Making
-pub mod Answers
 pub mod Sizes
 pub mod Ranging

@@ -18,7 +18,7 @@ use Rattle.lookup.specs.Buckets.{bucketsOf, placesOf}
 use Rattle.lookup.specs.Part.{Room as LookupRoom}
 use Rattle.lookup.specs.Changes.{Made}
 use Rattle.lookup.proofs.Making.{make-does}
-use Rattle.parts.specs.Parts.{Parts, ghostsOf, ghostPlace, Holds}
+use Rattle.parts.specs.Parts.{Parts, ghostsOf, ghostPlace}
 use Rattle.parts.specs.Changes.{made}
 use Rattle.parts.proofs.Sides.{place-below}
 use Rattle.parts.proofs.HoldsAs.{HoldsAs, stateAs, Becomes, becomes}
@@ -29,9 +29,6 @@ pub record HaveRoom (c : ℕ) (p : Parts) : Type 0 where
   pub residents : ResidentsRoom (p .residents) c
   pub ghosts : (i : Side) → GhostsRoom (ghostsOf i p) c
   pub lookup : LookupRoom (p .lookup) (placesOf c) (bucketsOf c)
-
-pub holds-room : (c : ℕ) (p : Parts) → Holds c p → HaveRoom c p
-holds-room c p h = record { small = h .small; residents = h .residents .room; ghosts = λ i. h .ghosts i .room; lookup = h .table .room }
 
 up-count : (a n : ℕ) → upFrom a n ≡ countFrom a n
 up-count a zero = refl

@@ -8,12 +8,12 @@ use lib.ListN.{length, length-append}
 use Rattle.rules.specs.State.{Side, first, second}
 use Rattle.rings.specs.Members.{Mem, Fresh, Distinct, without}
 use Rattle.rings.specs.Rings.{outOf, together}
-use Rattle.rings.proofs.Members.{same-or-other, low-or-high, not-mem, below-mem}
+use Rattle.rings.proofs.Members.{same-or-other, low-or-high, below-mem}
 use Rattle.rings.proofs.Ring.{ring-distinct}
 use Rattle.rings.proofs.Family.{changed-here, changed-other, rings-apart, together-covers}
 use Rattle.residents.specs.Residents.{linksOf, total}
 use Rattle.ghosts.specs.Ghosts.{linksOf as ghostLinks}
-use Rattle.ghosts.proofs.Laws.{apart-lists, live-or-spare}
+use Rattle.ghosts.proofs.Laws.{live-or-spare}
 use Rattle.lookup.specs.Buckets.{bucketsOf, placesOf}
 use Rattle.lookup.specs.Part.{pageOf}
 use Rattle.lookup.specs.Lookup.{bucketIn}
@@ -46,18 +46,9 @@ module _ (c : ℕ) (p : Parts) (L : ℕ → List ℕ) (live spare : Side → Lis
   pub slots-distinct : (i : ℕ) → i < 3 → Distinct (L i)
   slots-distinct i h = ring-distinct (linksOf c (p .residents)) c (c + i) (L i) (a .residents .rings i h)
 
-  pub slot-list : (i j x : ℕ) → i < 3 → j < 3 → Mem x (L i) → Mem x (L j) → i ≡ j
-  slot-list i j x hi hj k m = ⊎-elim (λ q. q) (λ n. absurd (not-mem x (L j) (slots-apart i j hi hj n x k) m)) (same-or-other i j)
-
   -- no cell in both lists of a side, nor twice in one
   pub live-distinct : (i : Side) → Distinct (live i)
   live-distinct i = ring-distinct (ghostLinks (ghostsOf i p)) c c (live i) (a .ghosts i .list)
-
-  pub spare-distinct : (i : Side) → Distinct (spare i)
-  spare-distinct i = ring-distinct (ghostLinks (ghostsOf i p)) c (c + 1) (spare i) (a .ghosts i .spares)
-
-  pub cells-apart : (i : Side) (g : ℕ) → Mem g (live i) → Fresh g (spare i)
-  cells-apart i g k = apart-lists (ghostsOf i p) c (live i) (spare i) (a .ghosts i) g k
 
   -- a slot that leaves list i leaves each list as it is without that slot
   pub out-of : (i e u : ℕ) → i < 3 → u < 3 → Mem e (L i) → outOf i e L u ≡ without e (L u)

@@ -1,11 +1,11 @@
--- Bytes that are moved to the front. In order: how they lie; one byte more; what answers the needs of `keep`; what a caller uses. Assumes nothing.
+-- Bytes that are moved to the front. In order: how they lie; one byte more; what answers the needs of `keep`; any two outcomes are equal. Assumes nothing.
 use mathlib.Core.Path.{_≡_, refl, sym, ap, ap₂, _∙_}
 use mathlib.Core.List.{List, [], _∷_, _++_}
 use Prim.Native.Nat.{ℕ, suc, _+_, _-_, _<_, _≤_}
 use native.Mathlib.Numerals.{add-one}
 use native.Mathlib.Omega.{arith}
 use lib.ListN.{length, take, drop, getD, set, length-append, length-drop}
-use lib.Seq.{length-take-le, take-at, take-suc, drop-cons, set-at, append-snoc, getD-append-add, getD-drop}
+use lib.Seq.{length-take-le, take-suc, drop-cons, set-at, append-snoc, getD-append-add, getD-drop}
 use borrow.Author.Needs.{needs}
 use Rattle.pieces.specs.Pieces.{Within, moved, Kept}
 
@@ -67,20 +67,6 @@ moving-all w from to n v i m h =
     record { buffer = m .buffer ∙ ap (λ k. moved from k w) all; count = m .count }
 
 pub ruleset laws = (moving-none, moving-more, moving-all, needs)
-
--- ---- what a caller uses: the length, and the bytes that were kept
-pub kept-size : (w v : List ℕ) (from to r : ℕ) → Within w from to → Kept w v from to r → length v ≡ length w
-kept-size w v from to r h k =
-    let order = h .order in
-    let inside = h .inside in
-    ap length (k .buffer) ∙ moved-size from (to - from) w (omega arith)
-
-pub kept-front : (w v : List ℕ) (from to r : ℕ) → Within w from to → Kept w v from to r → take r v ≡ take (to - from) (drop from w)
-unfolding moved
-kept-front w v from to r h k =
-    let order = h .order in
-    let inside = h .inside in
-    ap₂ (λ n l. take n l) (k .count) (k .buffer) ∙ take-at (take (to - from) (drop from w)) (drop (to - from) w) (to - from) (taken-size from (to - from) w (omega arith))
 
 -- any two outcomes that the contract allows are equal
 pub one-outcome : (w u v : List ℕ) (from to p r : ℕ) → Kept w u from to p → Kept w v from to r → (u ≡ v) × (p ≡ r)

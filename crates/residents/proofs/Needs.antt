@@ -182,6 +182,3 @@ module _ (w : List ℕ) (c j e : ℕ) (h : CanAdd w c j) (q : e ≡ nextOf (tail
 
   pub taken-end : (v : List ℕ) → v ≡ shiftedEnd c 2 j e w → HasSlot v c e
   taken-end v p = rw p (has-shifted w c 2 j e _ (omega arith) to (length-ended (c + j) e (linksOf c w)) slot)
-
-pub has-free : (w : List ℕ) (c j : ℕ) → CanAdd w c j → HasList w c 2
-has-free w c j h = record { room = h .residents .room; list = omega arith }

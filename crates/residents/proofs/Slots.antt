@@ -27,9 +27,6 @@ module _ (w : List ℕ) (c e : ℕ) (h : e < c) where
   pub frame-bit : (b x : ℕ) → x < c → frameOf (withBit c e b w) x ≡ frameOf w x
   frame-bit b x k = ⊎-elim (λ q. rw q (W.frame-withBit w c e h b)) (λ d. W.same-bit w c e h x k d b .frame) (same-or-other x e)
 
-  pub bit-frame : (f x : ℕ) → x < c → bitOf (withFrame e f w) c x ≡ bitOf w c x
-  bit-frame f x k = ⊎-elim (λ q. rw q (W.bit-withFrame w c e h f)) (λ d. W.same-frame w c e h x k d f .bit) (same-or-other x e)
-
 -- a resident moves: its list number i is known
 module _ (w : List ℕ) (c e i : ℕ) (room : Room w c) (h : e < c) (hi : i < 2) (q : listOf w c e ≡ i) where
   pub frame-promoted : (x : ℕ) → x < c → frameOf (promoted c e w) x ≡ frameOf w x

@@ -6,7 +6,6 @@ pub mod Ring
 pub mod Moves
 pub mod Words
 pub mod Reading
-pub mod Following
 pub mod Walks
 pub mod Meeting
 pub mod Filling

@@ -114,14 +114,6 @@ fresh-without e (x ∷ xs) d = go (eqb x e) refl (fresh-without e xs (d .1))
 pub fresh-less : (x e : ℕ) (xs : List ℕ) → Fresh x xs → Fresh x (without e xs)
 fresh-less x e xs f = fresh x (without e xs) (λ k. not-mem x xs f (mem-without e x xs k))
 
-pub distinct-without : (e : ℕ) (xs : List ℕ) → Distinct xs → Distinct (without e xs)
-distinct-without e [] d = tt
-distinct-without e (x ∷ xs) d = go (eqb x e) (distinct-without e xs (d .1))
-  where
-    go : (t : Bool) → Distinct (without e xs) → Distinct (cond t xs (x ∷ without e xs))
-    go true r = d .1
-    go false r = (fresh x (without e xs) (λ k. not-mem x xs (d .0) (mem-without e x xs k)), r)
-
 pub without-first : (e : ℕ) (xs : List ℕ) → without e (e ∷ xs) ≡ xs
 without-first e xs = simp (eq-eqb e e refl)
 
@@ -133,14 +125,6 @@ below-insert m f e (x ∷ xs) h b = go (eqb x f) (below-insert m f e xs h (b .1)
     go : (t : Bool) → Below m (insertBefore f e xs) → Below m (cond t (e ∷ x ∷ xs) (x ∷ insertBefore f e xs))
     go true r = (h, b)
     go false r = (b .0, r)
-
-pub length-insert : (f e : ℕ) (xs : List ℕ) → length (insertBefore f e xs) ≡ suc (length xs)
-length-insert f e [] = refl
-length-insert f e (x ∷ xs) = go (eqb x f) (length-insert f e xs)
-  where
-    go : (t : Bool) → length (insertBefore f e xs) ≡ suc (length xs) → length (cond t (e ∷ x ∷ xs) (x ∷ insertBefore f e xs)) ≡ suc (suc (length xs))
-    go true r = refl
-    go false r = ap suc r
 
 pub mem-insert : (f e x : ℕ) (xs : List ℕ) → Mem x (insertBefore f e xs) → (x ≡ e) ⊎ Mem x xs
 mem-insert f e x [] k = k

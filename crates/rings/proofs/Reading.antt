@@ -1,5 +1,5 @@
 -- The reading of a ring is the only one: its members are found by following next from the sentinel. Assumes nothing.
-use mathlib.Core.Path.{_≡_, refl, sym, _∙_}
+use mathlib.Core.Path.{_≡_, refl}
 use mathlib.Core.Logic.{inl}
 use mathlib.Core.List.{List, [], _∷_}
 use Prim.Native.Nat.{ℕ, zero, suc, _<_, _≤_}
@@ -22,9 +22,6 @@ follow-links w m (suc n) a (x ∷ xs) s h l b f = simp (l .0, lt-ltb x m (b .0),
 pub ring-members : (w : List ℕ) (m s : ℕ) (xs : List ℕ) → Ring w m s xs → membersOf w m s ≡ xs
 unfolding membersFrom
 ring-members w m s xs r = follow-links w m m s xs s (r .high) (r .links) (r .below) (ring-short w m s xs r)
-
-pub ring-unique : (w : List ℕ) (m s : ℕ) (xs ys : List ℕ) → Ring w m s xs → Ring w m s ys → xs ≡ ys
-ring-unique w m s xs ys r o = sym (ring-members w m s xs r) ∙ ring-members w m s ys o
 
 pub ring-read : (w : List ℕ) (m s : ℕ) (xs : List ℕ) → Ring w m s xs → Ring w m s (membersOf w m s)
 ring-read w m s xs r = rw (ring-members w m s xs r) r

@@ -8,7 +8,7 @@ use Prim.Native.Nat.{ℕ, _<_, _≤_}
 use native.Mathlib.Omega.{arith}
 use lib.ListN.{length}
 use Rattle.cells.specs.Cells.{In, nextOf, prevOf}
-use Rattle.cells.proofs.Laws.{cells, lengths, in-below, in-length, next-other, next-withPrev, prev-other, prev-withNext}
+use Rattle.cells.proofs.Laws.{cells, lengths, in-below, in-length, prev-other, prev-withNext}
 use Rattle.rings.specs.Members.{Mem, Fresh, Below, Distinct, without, insertBefore}
 use Rattle.rings.specs.Rings.{Links, Ring, inserted, detached, emptied, CanInsert, CanDetach}
 use Rattle.rings.proofs.Members.{not-mem, fresh, below-fresh, below-mem, below-without, below-insert}
@@ -32,17 +32,9 @@ pub prev-inserted : (f e : ℕ) (w : List ℕ) (x : ℕ) → (x ≡ e → ⊥) �
 unfolding inserted
 prev-inserted f e w x h n = prev-withNext _ _ _ _ ∙ prev-other _ _ _ _ n ∙ prev-other _ _ _ _ h ∙ prev-withNext _ _ _ _
 
-pub next-inserted : (f e : ℕ) (w : List ℕ) (x : ℕ) → (x ≡ e → ⊥) → (x ≡ prevOf w f → ⊥) → nextOf (inserted f e w) x ≡ nextOf w x
-unfolding inserted
-next-inserted f e w x h n = next-other _ _ _ _ n ∙ next-withPrev _ _ _ _ ∙ next-withPrev _ _ _ _ ∙ next-other _ _ _ _ h
-
 pub prev-detached : (e : ℕ) (w : List ℕ) (x : ℕ) → (x ≡ nextOf w e → ⊥) → prevOf (detached e w) x ≡ prevOf w x
 unfolding detached
 prev-detached e w x n = prev-other _ _ _ _ n ∙ prev-withNext _ _ _ _
-
-pub next-detached : (e : ℕ) (w : List ℕ) (x : ℕ) → (x ≡ prevOf w e → ⊥) → nextOf (detached e w) x ≡ nextOf w x
-unfolding detached
-next-detached e w x n = next-withPrev _ _ _ _ ∙ next-other _ _ _ _ n
 
 -- what a ring has
 module _ (w : List ℕ) (m s : ℕ) (xs : List ℕ) (r : Ring w m s xs) where

@@ -1,2 +1,1 @@
--- The laws of `states`. Assumes nothing.
-pub mod Laws
+-- The proofs of `states`. Assumes nothing.

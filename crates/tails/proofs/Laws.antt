@@ -4,7 +4,7 @@ use mathlib.Core.List.{List, _++_, append-nil}
 use Prim.Native.Nat.{ℕ, _+_, _-_, _<_, _≤_}
 use native.Mathlib.Omega.{arith}
 use lib.ListN.{length, getD, set, take, drop, length-append, length-drop, take-append-drop, List·getD-append}
-use lib.Seq.{take-at, drop-at, length-take-le, drop-length, drop-set-lt, take-set-lt, getD-take, getD-drop, set-append-left}
+use lib.Seq.{take-at, drop-at, length-take-le, drop-length, drop-set-lt, take-set-lt, getD-take, set-append-left}
 use borrow.Rule.Slice.PartAt.{part-to-end}
 use Rattle.tails.specs.Tails.{tailOf, withTail}
 
@@ -20,10 +20,6 @@ back w l a = rw (ap (λ (n : ℕ). drop n (drop a w)) (sym (length-drop a w)) �
 pub length-tail : (a : ℕ) (w : List ℕ) → length (tailOf a w) ≡ length w - a
 unfolding tailOf
 length-tail a w = length-drop a w
-
-pub word-tail : (a : ℕ) (w : List ℕ) (i : ℕ) → getD (tailOf a w) i 0 ≡ getD w (a + i) 0
-unfolding tailOf
-word-tail a w i = getD-drop a w i 0
 
 module _ (a : ℕ) (l w : List ℕ) (h : a ≤ length w) where
   pub tail-withTail : tailOf a (withTail a l w) ≡ l

@@ -1,4 +1,4 @@
--- What answers the needs of `telling`. Assumes nothing.
+-- What answers the needs of `telling` and of the test programs. Assumes nothing.
 use mathlib.Core.Path.{_≡_, sym}
 use mathlib.Core.List.{List}
 use Prim.Native.Nat.{ℕ, _≤_}
