@@ -2,7 +2,7 @@
 -- what a move asks; what it does to the ring it comes to, to the ring it left, and to any other.
 -- The ring that is come to is read after the detach, so that it may be the one that was left.
 -- Assumes nothing.
-use mathlib.Core.Path.{_≡_, refl, sym, _∙_}
+use mathlib.Core.Path.{_≡_, refl, sym, ap, _∙_}
 use mathlib.Core.Bool.{Bool, true, false, cond}
 use mathlib.Core.Logic.{_⊎_, inl, inr, ⊎-elim}
 use mathlib.Core.List.{List, [], _∷_, _++_}
@@ -10,7 +10,7 @@ use Prim.Native.Nat.{ℕ, _<_}
 use lib.ListN.{length}
 use lib.Dec.{eqb}
 use borrow.Author.Tests.{eqb-true, eqb-false, eq-eqb, ne-eqb}
-use Rattle.cells.specs.Cells.{nextOf}
+use Rattle.cells.specs.Cells.{nextOf, prevOf}
 use Rattle.rings.specs.Members.{Mem, Fresh, Distinct, without, insertBefore, inPlaceOf}
 use Rattle.rings.specs.Rings.{Links, Ring, detached, fronted, ended, replaced, CanFront, CanEnd, CanReplace}
 use Rattle.rings.proofs.Members.{not-mem, mem-stays, fresh-less, insert-end}
@@ -46,6 +46,11 @@ pub length-replaced : (x y : ℕ) (w : List ℕ) → length (replaced x y w) ≡
 unfolding replaced
 length-replaced x y w = length-inserted _ y (detached x w) ∙ length-detached x w
 
+-- before the first member, or before the sentinel of a ring that has none, stands the cell before it
+first-back : (w : List ℕ) (a : ℕ) (xs : List ℕ) (b : ℕ) → Links w a xs b → prevOf w (nextOf w a) ≡ a
+first-back w a [] b l = ap (prevOf w) (l .0) ∙ l .1
+first-back w a (x ∷ xs) b l = ap (prevOf w) (l .0) ∙ l .1
+
 -- e, a member of the ring of s, moves; t is the ring that it comes to, ys what that has once e has left its own
 module _ (w : List ℕ) (m s : ℕ) (xs : List ℕ) (r : Ring w m s xs) (e : ℕ) (k : Mem e xs) (t : ℕ) (ys : List ℕ) (d : Ring (detached e w) m t ys) where
   small : e < m
@@ -55,7 +60,7 @@ module _ (w : List ℕ) (m s : ℕ) (xs : List ℕ) (r : Ring w m s xs) (e : ℕ
   at-first = ring-after (detached e w) m t ys d t (inl refl)
 
   pub can-front : CanFront w t e
-  can-front = record { root = d .root; out = can-detach w m s xs r e k; into = can-insert (detached e w) m t ys d (nextOf (detached e w) t) e at-first small }
+  can-front = record { root = d .root; out = can-detach w m s xs r e k; into = can-insert (detached e w) m t ys d (nextOf (detached e w) t) e at-first small; back = first-back (detached e w) t ys t (d .links) }
 
   pub can-end : CanEnd w t e
   can-end = record { out = can-detach w m s xs r e k; into = can-insert (detached e w) m t ys d t e (inl refl) small }

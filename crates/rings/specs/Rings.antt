@@ -56,6 +56,9 @@ abbrev pub membersOf : List ℕ → ℕ → ℕ → List ℕ
 membersOf w m s = membersFrom w m (nextOf w s)
 
 -- THE CHANGES. e, which is in no ring, comes before f
+unfoldable pub placed : ℕ → ℕ → ℕ → List ℕ → List ℕ
+placed p f e w = withNext (withPrev (withPrev (withNext w e f) e p) f e) p e
+
 unfoldable pub inserted : ℕ → ℕ → List ℕ → List ℕ
 inserted f e w = withNext (withPrev (withPrev (withNext w e f) e (prevOf w f)) f e) (prevOf w f) e
 
@@ -95,6 +98,11 @@ unfoldable pub filled : ℕ → ℕ → List ℕ → List ℕ
 filled s n w = linked (before s n) s (chained s n w)
 
 -- WHAT THE CHANGES ASK: the cells that are touched are there
+pub record CanPlace (w : List ℕ) (p f e : ℕ) : Type 0 where
+  pub self : In w e
+  pub at : In w f
+  pub back : In w p
+
 pub record CanInsert (w : List ℕ) (f e : ℕ) : Type 0 where
   pub self : In w e
   pub at : In w f
@@ -109,6 +117,7 @@ pub record CanFront (w : List ℕ) (s e : ℕ) : Type 0 where
   pub root : In (detached e w) s
   pub out : CanDetach w e
   pub into : CanInsert (detached e w) (nextOf (detached e w) s) e
+  pub back : prevOf (detached e w) (nextOf (detached e w) s) ≡ s
 
 pub record CanEnd (w : List ℕ) (s e : ℕ) : Type 0 where
   pub out : CanDetach w e

@@ -6,8 +6,19 @@
 // for one ring and for another beside it in proofs/Ring.antt and Moves.antt, for a family of rings in Family.antt.
 ghost use mathlib.Core.Path.{_≡_};
 ghost use Rattle.cells.specs.Cells.{In};
-ghost use Rattle.rings.specs.Rings.{inserted, detached, fronted, ended, replaced, emptied, linked, filled, CanInsert, CanDetach, CanFront, CanEnd, CanReplace, CanFill};
+ghost use Rattle.rings.specs.Rings.{placed, inserted, detached, fronted, ended, replaced, emptied, linked, filled, CanPlace, CanInsert, CanDetach, CanFront, CanEnd, CanReplace, CanFill};
 ghost use Rattle.rings.specs.Walks.{joined, ahead, behind, any, ringTest, CanWalk, CanStep};
+
+// e, which is in no ring, comes between p and f. Nothing is read: a move to the front of a ring, which knows its sentinel, waits for no load of it.
+fn place(w: &mut [u64], p: usize, f: usize, e: usize)
+    requires { ⌜ CanPlace (now w) p f e ⌝ }
+    ensures { λ _. ⌜ now (w .exit) ≡ placed p f e (now (w .entry)) ⌝ }
+{
+    cells::set_next(w, e, f);
+    cells::set_prev(w, e, p);
+    cells::set_prev(w, f, e);
+    cells::set_next(w, p, e);
+}
 
 // e, which is in no ring, comes before f, a member or a sentinel: before the sentinel is the end.
 pub fn insert(w: &mut [u64], f: usize, e: usize)
@@ -15,10 +26,7 @@ pub fn insert(w: &mut [u64], f: usize, e: usize)
     ensures { λ _. ⌜ now (w .exit) ≡ inserted f e (now (w .entry)) ⌝ }
 {
     let p = cells::prev(w, f);
-    cells::set_next(w, e, f);
-    cells::set_prev(w, e, p);
-    cells::set_prev(w, f, e);
-    cells::set_next(w, p, e);
+    place(w, p, f, e);
 }
 
 // e leaves its ring. Its own two numbers stay.
@@ -39,7 +47,7 @@ pub fn to_front(w: &mut [u64], s: usize, e: usize)
 {
     detach(w, e);
     let f = cells::next(w, s);
-    insert(w, f, e);
+    place(w, s, f, e);
 }
 
 // e leaves its ring and comes to the end of the ring of s, which may be its own.
