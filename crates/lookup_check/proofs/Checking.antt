@@ -3,29 +3,26 @@ use mathlib.Core.Path.{_≡_, refl, sym, ap, _∙_}
 use mathlib.Core.Bool.{Bool, true, false, cond, false≢true}
 use mathlib.Core.Logic.{_⊎_, ⊎-elim}
 use mathlib.Core.List.{List}
-use Prim.Native.Nat.{ℕ, zero, suc, _+_, _-_, _*_, _^_, _<_, _≤_}
+use Prim.Native.Nat.{ℕ, zero, suc, _+_, _-_, _^_, _<_, _≤_}
 use native.Mathlib.Omega.{arith}
 use native.Mathlib.Numerals.{add-one}
 use native.Mathlib.Nat.{mod-eq-of-lt}
-use lib.ListN.{length, length-drop}
 use lib.Dec.{eqb, ltb}
 use mir.Val.{Fits}
 use mir.Syntax.{w64}
 use borrow.Author.Needs.{needs}
 use borrow.Author.Tests.{eqb-true, ltb-true, eq-eqb, ne-eqb, lt-ltb, le-ltb}
-use Rattle.cells.specs.Cells.{nextOf, prevOf, In}
-use Rattle.cells.proofs.Laws.{in-cells}
+use Rattle.cells.specs.Cells.{nextOf, prevOf}
 use Rattle.rings.proofs.Members.{same-or-other, low-or-high}
 use Rattle.lookup.specs.declared.Divisor.{Divisor}
 use Rattle.lookup.specs.Buckets.{bucketOf}
 use Rattle.lookup.specs.Dividing.{DivisorOf}
 use Rattle.lookup.specs.Part.{pageOf, linksOf, Room}
-use Rattle.lookup.specs.Changes.{CanReach}
 use Rattle.lookup_check.specs.declared.Rest.{Rest}
 use Rattle.lookup_check.specs.declared.Rest.the-variants.{Left, Bad}
 use Rattle.lookup_check.specs.Check.{shownPage, placesAt, aloneTest, walkOf, walkOn, walksOf, usedUp, lookupTest, CanWalk, CanPass}
 use Rattle.lookup_check.proofs.Ends.{last-closes, last-strays}
-use Rattle.lookup_check.proofs.Walking.{walk-fits, walk-belong, first-full, first-astray, first-closed, first-unlinked, first-strange, first-rest}
+use Rattle.lookup_check.proofs.Walking.{bucket-root, bucket-fits, walk-fits, walk-cell, walk-word, walk-belong, first-full, first-astray, first-closed, first-unlinked, first-strange, first-rest}
 
 -- THE NUMBERS
 pub shown-place : (m x p : ℕ) → x < m → p ≡ shownPage m x p
@@ -44,16 +41,9 @@ pub no-place : (m x : ℕ) → m ≤ x → 0 ≡ placesAt m x
 unfolding placesAt
 no-place m x l = simp (le-ltb x m l)
 
--- what `alone` asks: any cell
+-- the number of a cell fits in a word
 pub walk-cells-fit : (w : List ℕ) (m : ℕ) (d : Divisor) (b : ℕ) → CanWalk w m d b → Fits w64 (m + d .k)
 walk-cells-fit w m d b can = let l : m + d .k < 2 ^ 64 = can .room .fits in omega arith
-
-pub walk-cell : (w : List ℕ) (m : ℕ) (d : Divisor) (b x : ℕ) → CanWalk w m d b → x < m + d .k → CanReach w m x
-walk-cell w m d b x can l = record { pages = can .room .pages; cell = in-cells (linksOf m w) (m + d .k) x (can .room .links) l }
-
-pub walk-word : (w : List ℕ) (m : ℕ) (d : Divisor) (b x : ℕ) → CanWalk w m d b → x < m + d .k → x < length w
-unfolding linksOf In
-walk-word w m d b x can l = let h : 2 * x + 1 < length w - m = simp length-drop at (in-cells (linksOf m w) (m + d .k) x (can .room .links) l) in omega arith
 
 -- THE TEST of x, where it stands both first and last
 module _ (w : List ℕ) (m k b x : ℕ) where
@@ -166,12 +156,6 @@ check-start w m k live = record { within = omega arith; same = refl }
 pub check-some : (w : List ℕ) (m k : ℕ) → Room w m k → 0 < k
 check-some w m k room = room .some
 
-pub check-root : (w : List ℕ) (m k b : ℕ) → Room w m k → b < k → CanReach w m (m + b)
-check-root w m k b room h = record { pages = room .pages; cell = in-cells (linksOf m w) (m + k) (m + b) (room .links) (omega arith) }
-
-pub check-fits : (w : List ℕ) (m k b : ℕ) → Room w m k → b < k → Fits w64 (m + b)
-check-fits w m k b room h = let l : m + k < 2 ^ 64 = room .fits in omega arith
-
 pub check-walks : (w : List ℕ) (m k : ℕ) (d : Divisor) (b : ℕ) → Room w m k → DivisorOf k d → b < k → CanWalk w m d b
 check-walks w m k d b room q h = record { room = rw (q .is) room; divides = q .divides; bucket = rw (q .is) h }
 
@@ -222,4 +206,4 @@ module _ (w : List ℕ) (m k live left b : ℕ) (g : Checked w m k live left b) 
 
 pub ruleset laws = (shown-place, shown-sentinel, one-place, no-place, walk-cells-fit, walk-cell, walk-word, walk-fits, walk-belong, alone-outside, alone-not-after, alone-not-before, alone-tells, needs)
 
-pub ruleset checkLaws = (check-start, check-root, check-fits, check-some, check-walks, check-passes, check-walk-bad, check-walk-turn, check-end, check-short, check-crowd, check-alone, needs)
+pub ruleset checkLaws = (check-start, bucket-root, bucket-fits, check-some, check-walks, check-passes, check-walk-bad, check-walk-turn, check-end, check-short, check-crowd, check-alone, needs)

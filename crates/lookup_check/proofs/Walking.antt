@@ -3,21 +3,21 @@ use mathlib.Core.Path.{_≡_, refl, sym, _∙_}
 use mathlib.Core.Bool.{Bool, true, false, cond}
 use mathlib.Core.Logic.{_⊎_, ⊎-elim}
 use mathlib.Core.List.{List}
-use Prim.Native.Nat.{ℕ, suc, _+_, _-_, _^_, _<_, _≤_}
+use Prim.Native.Nat.{ℕ, suc, _+_, _-_, _*_, _^_, _<_, _≤_}
 use native.Mathlib.Omega.{arith}
-use lib.ListN.{length}
+use lib.ListN.{length, length-drop}
 use lib.Dec.{eqb}
 use mir.Val.{Fits}
 use mir.Syntax.{w64}
 use borrow.Author.Needs.{needs}
 use borrow.Author.Tests.{eq-eqb, ne-eqb, lt-ltb, le-ltb, le-leb, lt-leb}
-use Rattle.cells.specs.Cells.{nextOf, prevOf}
+use Rattle.cells.specs.Cells.{nextOf, prevOf, In}
 use Rattle.cells.proofs.Laws.{in-cells}
 use Rattle.rings.proofs.Members.{same-or-other}
 use Rattle.lookup.specs.declared.Divisor.{Divisor}
 use Rattle.lookup.specs.Buckets.{bucketOf}
 use Rattle.lookup.specs.Dividing.{Divides}
-use Rattle.lookup.specs.Part.{pageOf, linksOf}
+use Rattle.lookup.specs.Part.{pageOf, linksOf, Room}
 use Rattle.lookup.specs.Changes.{CanReach}
 use Rattle.lookup_check.specs.declared.Rest.{Rest}
 use Rattle.lookup_check.specs.declared.Rest.the-variants.{Left, Bad}
@@ -50,21 +50,34 @@ next-least : (w : List ℕ) (m cur x : ℕ) → cur < m → pageOf w cur < pageO
 unfolding leastAfter
 next-least w m cur x l h = rw (lt-ltb cur m l) h
 
--- what the walk asks
+-- what the walk asks: the sentinel of a bucket; any cell, and its word among the pages
+pub bucket-root : (w : List ℕ) (m k b : ℕ) → Room w m k → b < k → CanReach w m (m + b)
+bucket-root w m k b room h = record { pages = room .pages; cell = in-cells (linksOf m w) (m + k) (m + b) (room .links) (omega arith) }
+
+pub bucket-fits : (w : List ℕ) (m k b : ℕ) → Room w m k → b < k → Fits w64 (m + b)
+bucket-fits w m k b room h = let l : m + k < 2 ^ 64 = room .fits in omega arith
+
 pub walk-root : (w : List ℕ) (m : ℕ) (d : Divisor) (b : ℕ) → CanWalk w m d b → CanReach w m (m + b)
-walk-root w m d b can = let h : b < d .k = can .bucket in record { pages = can .room .pages; cell = in-cells (linksOf m w) (m + d .k) (m + b) (can .room .links) (omega arith) }
+walk-root w m d b can = bucket-root w m (d .k) b (can .room) (can .bucket)
+
+pub walk-fits : (w : List ℕ) (m : ℕ) (d : Divisor) (b : ℕ) → CanWalk w m d b → Fits w64 (m + b)
+walk-fits w m d b can = bucket-fits w m (d .k) b (can .room) (can .bucket)
+
+pub walk-cell : (w : List ℕ) (m : ℕ) (d : Divisor) (b x : ℕ) → CanWalk w m d b → x < m + d .k → CanReach w m x
+walk-cell w m d b x can l = record { pages = can .room .pages; cell = in-cells (linksOf m w) (m + d .k) x (can .room .links) l }
+
+pub walk-word : (w : List ℕ) (m : ℕ) (d : Divisor) (b x : ℕ) → CanWalk w m d b → x < m + d .k → x < length w
+unfolding linksOf In
+walk-word w m d b x can l = let h : 2 * x + 1 < length w - m = simp length-drop at (in-cells (linksOf m w) (m + d .k) x (can .room .links) l) in omega arith
 
 pub walk-in : (w : List ℕ) (m : ℕ) (d : Divisor) (b x : ℕ) → CanWalk w m d b → x < m → CanReach w m x
-walk-in w m d b x can l = record { pages = can .room .pages; cell = in-cells (linksOf m w) (m + d .k) x (can .room .links) (omega arith) }
+walk-in w m d b x can l = walk-cell w m d b x can (omega arith)
 
 pub walk-page : (w : List ℕ) (m : ℕ) (d : Divisor) (b x : ℕ) → CanWalk w m d b → x < m → x < length w
-walk-page w m d b x can l = let h : m ≤ length w = can .room .pages in omega arith
+walk-page w m d b x can l = walk-word w m d b x can (omega arith)
 
 pub walk-belong : (w : List ℕ) (m : ℕ) (d : Divisor) (b : ℕ) → CanWalk w m d b → Divides d × (b < d .k)
 walk-belong w m d b can = (can .divides, can .bucket)
-
-pub walk-fits : (w : List ℕ) (m : ℕ) (d : Divisor) (b : ℕ) → CanWalk w m d b → Fits w64 (m + b)
-walk-fits w m d b can = let h : b < d .k = can .bucket in let l : m + d .k < 2 ^ 64 = can .room .fits in omega arith
 
 -- THE LOOP of `walk_on`, and the first step of `walk`: `whole` is what the whole walk gives
 pub record Walked (w : List ℕ) (m k b : ℕ) (whole : Rest) (left cur x : ℕ) : Type 0 where

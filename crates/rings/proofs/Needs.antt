@@ -52,7 +52,7 @@ front-places w v s e f c q z = rw (z, q) (record { self = c .into .self; at = c 
 
 -- the sentinel is before the first: the place in front of it is the one that `insert` finds
 pub front-is : (w v u : List ℕ) (s e f : ℕ) → CanFront w s e → v ≡ detached e w → f ≡ nextOf v s → u ≡ placed s f e v → u ≡ fronted s e w
-unfolding fronted inserted placed
+unfolding fronted inserted
 front-is w v u s e f c q z h = rw (z, q) at h ∙ rw (c .back) refl
 
 pub end-into : (w v : List ℕ) (s e : ℕ) → CanEnd w s e → v ≡ detached e w → CanInsert v s e

@@ -55,12 +55,13 @@ membersFrom w m e = follow w m m e
 abbrev pub membersOf : List ℕ → ℕ → ℕ → List ℕ
 membersOf w m s = membersFrom w m (nextOf w s)
 
--- THE CHANGES. e, which is in no ring, comes before f
-unfoldable pub placed : ℕ → ℕ → ℕ → List ℕ → List ℕ
+-- THE CHANGES. e, which is in no ring, comes between p and f
+abbrev pub placed : ℕ → ℕ → ℕ → List ℕ → List ℕ
 placed p f e w = withNext (withPrev (withPrev (withNext w e f) e p) f e) p e
 
+-- e, which is in no ring, comes before f: after what stands there
 unfoldable pub inserted : ℕ → ℕ → List ℕ → List ℕ
-inserted f e w = withNext (withPrev (withPrev (withNext w e f) e (prevOf w f)) f e) (prevOf w f) e
+inserted f e w = placed (prevOf w f) f e w
 
 -- e leaves its ring
 unfoldable pub detached : ℕ → List ℕ → List ℕ

@@ -1,5 +1,5 @@
 -- `rings::insert` meets its contract: its place is before f, after what stands there. Assumes nothing.
-use Rattle.rings.specs.Rings.{placed, inserted}
+use Rattle.rings.specs.Rings.{inserted}
 use Rattle.rings.proofs.Needs.{insert-at, insert-places, laws}
 use Rattle.rings.proofs.insert.Statement.{statement}
 use Rattle.rings.proofs.insert.Tie as tie
@@ -14,7 +14,7 @@ same-length : tie.Need-same-length
 same-length c = search laws
 
 returns : tie.Need-returns
-unfolding inserted placed
+unfolding inserted
 returns c = cc
 
 pub insert-spec : {M : Type 1} → statement M

@@ -1,5 +1,4 @@
 -- `rings::place` meets its contract. The cells that the stores touch are there, before each and after it. Assumes nothing.
-use Rattle.rings.specs.Rings.{placed}
 use Rattle.rings.proofs.Needs.{place-first, place-second, place-third, place-fourth, laws}
 use Rattle.rings.proofs.place.Statement.{statement}
 use Rattle.rings.proofs.place.Tie as tie
@@ -20,7 +19,6 @@ same-length : tie.Need-same-length
 same-length c = search laws
 
 returns : tie.Need-returns
-unfolding placed
 returns c = cc
 
 pub place-spec : {M : Type 1} → statement M
