@@ -7,22 +7,18 @@ use borrow.Author.Tests.{eq-eqb, ne-eqb}
 use Rattle.rules.specs.State.{seen}
 use Rattle.rules.specs.Calls.{Place, ghost, nowhere, Old, done}
 use Rattle.rules.specs.Stages.{goesTo}
-use Rattle.rules.specs.Arc.{Arc, new, replace, missed, roomFor, admitted, insertAt, got, removed, inserted, does}
+use Rattle.rules.specs.Arc.{Arc, new, missed, roomFor, admitted, insertAt, got, removed, inserted, does}
 use Rattle.rules.specs.Car.{new as newState}
 use Rattle.rules.proofs.Closure.{arc-call}
-use Rattle.parts.specs.States.{residentAt, frontedAt, enteredAtFront}
+use Rattle.parts.specs.States.{residentAt}
 use Rattle.area.specs.Stored.{arcOf}
 use Rattle.calls.specs.Policy.{arcPolicy}
 use Rattle.common.specs.Stages.{ofB2, entered}
-use Rattle.common.proofs.Lawful.{Stages, Lawful}
-use Rattle.common.proofs.Laws.{callNeeds}
-use Rattle.arc.specs.Insert.{ready, made, updated}
+use Rattle.common.proofs.Lawful.{Lawful}
+use Rattle.arc.specs.Insert.{ready, made, stages}
 use Rattle.arc.proofs.Plain.{here, away, residents-plainly, full-plainly, seen-plainly, asked-plainly, fronted-plainly, removed-plainly, entered-plainly, hit-plainly}
 use Rattle.arc.proofs.Updating.{fronted-framed}
 use Rattle.arc.proofs.Replacing.{replace-freed}
-
-abbrev pub stages : Stages arcPolicy
-stages = record { touched = frontedAt; put = enteredAtFront; ready = ready; made = made; replace = replace; admitted = admitted; updated = updated }
 
 -- the rules' own stages
 by-stages : (p : Place) (x f : ℕ) (s : Arc) → insertAt p x f s ≡ entered (admitted (goesTo p) x f) (made (ofB2 p) (ready p x s))
@@ -49,5 +45,3 @@ lawful = record {
   frees = λ hit s t h q x. omega (arith, replace-freed hit (arcOf s) (rw (residents-plainly s) h) .fewer x, ap (seen x) q, seen-plainly x s, seen-plainly x t);
   puts = λ i x f s. entered-plainly i x f false s;
 }
-
-pub ruleset callLaws = (lawful, callNeeds)

@@ -4,4 +4,4 @@ pub mod Updating
 pub mod Trimming
 pub mod Replacing
 pub mod Calling
-pub mod Inserting
+pub mod Fewer

@@ -6,6 +6,7 @@ use mathlib.Core.List.{List, [], _∷_}
 use Prim.Native.Nat.{ℕ, _≤_}
 use native.Mathlib.Omega.{arith}
 use lib.ListN.{length}
+use borrow.Author.Needs.{needs}
 use Rattle.rules.specs.Lists.{dropLast, last}
 use Rattle.rules.specs.State.{Entry, Side, list, setList, residents, Sound}
 use Rattle.rules.specs.Calls.{ghost, Replaced, replaced}
@@ -20,9 +21,10 @@ use Rattle.area.specs.Area.{sideOf}
 use Rattle.area.specs.Stored.{Stored, stateIn, plainly, arcOf}
 use Rattle.store.specs.Store.{LastIs}
 use Rattle.calls.specs.Policy.{arcPolicy}
-use Rattle.common.specs.Common.{TurnIs}
-use Rattle.common.specs.Stages.{CanDisplace, outOf, Chosen}
+use Rattle.common.specs.Common.{HasResident, TurnIs}
+use Rattle.common.specs.Stages.{outOf, Chosen}
 use Rattle.common.proofs.Finding.{obeys}
+use Rattle.common.proofs.Turning.{turn-has}
 use Rattle.arc.specs.Insert.{arcIn}
 use Rattle.arc.proofs.Plain.{plainlyIf, last-plainly, list-plainly, turn-plainly, sound-plainly, evicted-plainly}
 
@@ -76,5 +78,7 @@ module _ (b : Bool) (c : ℕ) (w : List ℕ) (i : ℕ) (t : TurnIs c w b i) (e :
         steps = ap (λ (r : Replaced Arc). length (r .trail)) replaces;
       }
 
-pub displaced : (c : ℕ) (w : List ℕ) (j x : ℕ) → CanDisplace c w j x → Stored c w
-displaced c w j x h = h .full .stored
+pub turn-stored : (c : ℕ) (w : List ℕ) → HasResident c w → Stored c w
+turn-stored c w h = h .stored
+
+pub ruleset replaceLaws = (turn-stored, turn-has, chooses, needs)

@@ -5,10 +5,12 @@ use Prim.Native.Nat.{ℕ}
 use Rattle.rules.specs.State.{withFrame, full}
 use Rattle.rules.specs.Calls.{Place, ghost, nowhere, Old, Done, done, Replaced, replaceIf}
 use Rattle.rules.specs.Stages.{ghostHit}
-use Rattle.rules.specs.Arc.{Arc, replace, trimmed, toFront}
+use Rattle.rules.specs.Arc.{Arc, replace, admitted, trimmed, toFront}
 use Rattle.rules.specs.Car.{Car}
-use Rattle.parts.specs.States.{residentAt}
+use Rattle.parts.specs.States.{residentAt, frontedAt, enteredAtFront}
 use Rattle.area.specs.Stored.{stateIn, plainly, arcOf}
+use Rattle.calls.specs.Policy.{arcPolicy}
+use Rattle.common.specs.Stages.{Stages}
 
 -- the state of ARC that an area of capacity c is read as
 abbrev pub arcIn : ℕ → List ℕ → Arc
@@ -26,3 +28,7 @@ made hit s = replaceIf (full s) (replace hit) s
 -- an update of the resident of slot e: the new frame, at the front of T2; the answer is the old frame
 abbrev pub updated : ℕ → ℕ → Car → Done Arc
 updated e f s = done (Old (residentAt e s .frame)) (toFront (withFrame f (plainly (residentAt e s))) (arcOf s))
+
+-- ARC in stages
+abbrev pub stages : Stages arcPolicy
+stages = record { touched = frontedAt; put = enteredAtFront; ready = ready; made = made; replace = replace; admitted = admitted; updated = updated }

@@ -14,7 +14,6 @@ use calls::Kind;
 use fresh::Made;
 use listing::Listed;
 use listing::Record;
-use opening::Opened;
 ghost use mathlib.Core.Path.{_≡_};
 ghost use Prim.Native.Nat.{min};
 ghost use Rattle.rules.specs.State.{maxCapacity};
@@ -32,9 +31,6 @@ pub struct ArcCore {}
 impl ArcCore {
     pub const MAX_CAPACITY: u64 = 1024;
 
-    // The kind in the header of an area of ARC.
-    const KIND: u64 = 1;
-
     // The words that a cache of capacity c needs, 24c + 64. Past the largest capacity, which `new` refuses, those of the largest.
     pub fn words(c: u64) -> u64
         ensures { λ r. ⌜ r ≡ wordsNeeded (min c maxCapacity) ⌝ }
@@ -49,135 +45,93 @@ impl ArcCore {
     pub fn new(area: &mut [u64], c: u64) -> Made
         ensures { λ r. ⌜ Making arcPolicy c (now (area .entry)) (now (area .exit)) (madeIs r) ⌝ }
     {
-        fresh::new(area, Self::KIND, c)
+        public::new(area, Kind::Arc, c)
     }
 
     // The frame of a page, or a miss. It moves to the front of T2.
     pub fn get(area: &mut [u64], page: u64) -> Got
         ensures { λ r. ⌜ Outcome arcPolicy (Get page) (now (area .entry)) (now (area .exit)) (gotIs r) ⌝ }
     {
-        match opening::open(area, Self::KIND) {
-            Opened::Cache(c) => arc::get(area, c, page),
-            Opened::Refused => Got::Refused,
-        }
+        public::get(area, Kind::Arc, page)
     }
 
     // The same, and nothing changes.
     pub fn peek(area: &[u64], page: u64) -> Seen
         ensures { λ r. ⌜ Told arcPolicy (Peek page) (now (area .entry)) (seenIs r) ⌝ }
     {
-        match opening::open(area, Self::KIND) {
-            Opened::Cache(c) => arc::peek(area, c, page),
-            Opened::Refused => Seen::Refused,
-        }
+        public::peek(area, Kind::Arc, page)
     }
 
     // Whether a page is resident.
     pub fn contains(area: &[u64], page: u64) -> Held
         ensures { λ r. ⌜ Told arcPolicy (Contains page) (now (area .entry)) (heldIs r) ⌝ }
     {
-        match opening::open(area, Self::KIND) {
-            Opened::Cache(c) => Held::Holds(arc::contains(area, c, page)),
-            Opened::Refused => Held::Refused,
-        }
+        public::contains(area, Kind::Arc, page)
     }
 
     // A page and its frame come in; the answer names the page that went out for it, if one did.
     pub fn insert(area: &mut [u64], page: u64, frame: u32) -> Inserted
         ensures { λ r. ⌜ Outcome arcPolicy (Insert page frame) (now (area .entry)) (now (area .exit)) (insertedIs r) ⌝ }
     {
-        match opening::open(area, Self::KIND) {
-            Opened::Cache(c) => arc::insert(area, c, page, frame),
-            Opened::Refused => Inserted::Refused,
-        }
+        public::insert(area, Kind::Arc, page, frame)
     }
 
     // A page leaves; the ghosts stay.
     pub fn remove(area: &mut [u64], page: u64) -> Gone
         ensures { λ r. ⌜ Outcome arcPolicy (Remove page) (now (area .entry)) (now (area .exit)) (goneIs r) ⌝ }
     {
-        match opening::open(area, Self::KIND) {
-            Opened::Cache(c) => arc::remove(area, c, page),
-            Opened::Refused => Gone::Refused,
-        }
+        public::remove(area, Kind::Arc, page)
     }
 
     // All lists are empty again, and the target is c / 2.
     pub fn clear(area: &mut [u64]) -> Cleared
         ensures { λ r. ⌜ Outcome arcPolicy Clear (now (area .entry)) (now (area .exit)) (clearedIs r) ⌝ }
     {
-        match opening::open(area, Self::KIND) {
-            Opened::Cache(c) => {
-                arc::clear(area, c);
-                Cleared::Cleared
-            }
-            Opened::Refused => Cleared::Refused,
-        }
+        public::clear(area, Kind::Arc)
     }
 
     // How many pages are resident; how many may be.
     pub fn len(area: &[u64]) -> Counted
         ensures { λ r. ⌜ Told arcPolicy Len (now (area .entry)) (countedIs r) ⌝ }
     {
-        match opening::open(area, Self::KIND) {
-            Opened::Cache(c) => Counted::Number(arc::len(area, c) as u64),
-            Opened::Refused => Counted::Refused,
-        }
+        public::len(area, Kind::Arc)
     }
 
     pub fn capacity(area: &[u64]) -> Counted
         ensures { λ r. ⌜ Told arcPolicy Capacity (now (area .entry)) (countedIs r) ⌝ }
     {
-        match opening::open(area, Self::KIND) {
-            Opened::Cache(c) => Counted::Number(arc::capacity(area, c) as u64),
-            Opened::Refused => Counted::Refused,
-        }
+        public::capacity(area, Kind::Arc)
     }
 
     // The target, and the lengths of T1, T2, B1 and B2.
     pub fn p_value(area: &[u64]) -> Counted
         ensures { λ r. ⌜ Told arcPolicy Target (now (area .entry)) (countedIs r) ⌝ }
     {
-        match opening::open(area, Self::KIND) {
-            Opened::Cache(c) => Counted::Number(arc::p_value(area, c)),
-            Opened::Refused => Counted::Refused,
-        }
+        public::p_value(area, Kind::Arc)
     }
 
     pub fn t1_len(area: &[u64]) -> Counted
         ensures { λ r. ⌜ Told arcPolicy T1Len (now (area .entry)) (countedIs r) ⌝ }
     {
-        match opening::open(area, Self::KIND) {
-            Opened::Cache(c) => Counted::Number(arc::t1_len(area, c) as u64),
-            Opened::Refused => Counted::Refused,
-        }
+        public::t1_len(area, Kind::Arc)
     }
 
     pub fn t2_len(area: &[u64]) -> Counted
         ensures { λ r. ⌜ Told arcPolicy T2Len (now (area .entry)) (countedIs r) ⌝ }
     {
-        match opening::open(area, Self::KIND) {
-            Opened::Cache(c) => Counted::Number(arc::t2_len(area, c) as u64),
-            Opened::Refused => Counted::Refused,
-        }
+        public::t2_len(area, Kind::Arc)
     }
 
     pub fn b1_len(area: &[u64]) -> Counted
         ensures { λ r. ⌜ Told arcPolicy B1Len (now (area .entry)) (countedIs r) ⌝ }
     {
-        match opening::open(area, Self::KIND) {
-            Opened::Cache(c) => Counted::Number(arc::b1_len(area, c) as u64),
-            Opened::Refused => Counted::Refused,
-        }
+        public::b1_len(area, Kind::Arc)
     }
 
     pub fn b2_len(area: &[u64]) -> Counted
         ensures { λ r. ⌜ Told arcPolicy B2Len (now (area .entry)) (countedIs r) ⌝ }
     {
-        match opening::open(area, Self::KIND) {
-            Opened::Cache(c) => Counted::Number(arc::b2_len(area, c) as u64),
-            Opened::Refused => Counted::Refused,
-        }
+        public::b2_len(area, Kind::Arc)
     }
 
     // A batch: runs a trace on the area, and answers the operations done, or the refusal. The counts are this batch's, those before a

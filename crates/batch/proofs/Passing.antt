@@ -1,5 +1,5 @@
 -- From the state test and the inner batch to the public one, in the shapes of the code; and ANY TWO OUTCOMES OF A BATCH ARE EQUAL. Assumes nothing.
-use mathlib.Core.Path.{_≡_, refl, sym, subst, ap, _∙_}
+use mathlib.Core.Path.{_≡_, refl, sym, ap, _∙_}
 use mathlib.Core.List.{List}
 use mathlib.Core.Option.{none}
 use Prim.Native.Nat.{ℕ}
@@ -13,10 +13,11 @@ use Rattle.calls.specs.Policy.{Policy, policyOf, reads}
 use Rattle.calls.specs.Inner.{Good}
 use Rattle.calls.specs.declared.Kind.{Kind}
 use Rattle.calls.proofs.Exact.{Exact, exact-of}
-use Rattle.calls.proofs.Reading.{reads-none, reads-good, good}
+use Rattle.calls.proofs.Reading.{reads-none, reads-good}
 use Rattle.opening.specs.Opening.{Opens}
 use Rattle.opening.specs.declared.Opened.{Opened}
 use Rattle.opening.specs.declared.Opened.the-variants.{Cache, Refused}
+use Rattle.opening.proofs.Public.{opens-as, opened-good}
 use Rattle.batch.specs.Outcomes.{countsIs, ranIs, Finishes, BatchOutcome}
 use Rattle.batch.specs.declared.Counts.{Counts}
 use Rattle.batch.specs.declared.Ran.the-variants as ran
@@ -35,15 +36,10 @@ ran-is P e c trace lent w v r g d =
       refused = λ n. let z : _≡_ {A = ℕ} 0 1 = cc in absurd (omega arith);
     }
 
--- what `open` tells of the words w, by the number of the kind
-module _ (k : Kind) (n : ℕ) (o : Opened) (w : List ℕ) (e : n ≡ policyOf k .kind) (h : Opens n w o) where
-  opens-as : (a : Opened) → o ≡ a → Opens (policyOf k .kind) w a
-  opens-as a q = subst (λ (y : Opened). Opens (policyOf k .kind) w y) q (subst (λ (j : ℕ). Opens j w o) e h)
-
+-- what `open` tells of the words w
+module _ (k : Kind) (o : Opened) (w : List ℕ) (h : Opens (policyOf k .kind) w o) where
   pub opened : (c : ℕ) → o ≡ Cache c → Good (policyOf k) c w
-  opened c q =
-      let x = opens-as (Cache c) q in
-      subst (λ (j : ℕ). Good (policyOf k) j w) (sym (x .capacity)) (good (policyOf k) (exact-of k) w (x .words) (x .test))
+  opened c q = opened-good (policyOf k) o w h (exact-of k) c q
 
   -- the trace was run
   pub ran-through : (c : ℕ) → o ≡ Cache c → (trace : List ℕ) (lent : Counts) (v : List ℕ) (r : Tally) → Finishes (policyOf k) c trace w v r
@@ -54,7 +50,7 @@ module _ (k : Kind) (n : ℕ) (o : Opened) (w : List ℕ) (e : n ≡ policyOf k 
   pub refused : o ≡ Refused → (trace : List ℕ) (lent : Counts) → BatchOutcome (policyOf k) trace lent w w (ranIs ran.Refused) lent
   unfolding batched
   refused q trace lent =
-      let z = reads-none (policyOf k) w (opens-as Refused q) in
+      let z = reads-none (policyOf k) w (opens-as (policyOf k) o w h Refused q) in
       record { is = rw z refl; size = refl; rest = refl; refused = λ _. refl }
 
 -- ---- two outcomes of one batch: the answers a and b, the areas u and v, the counts m and n

@@ -145,8 +145,7 @@ pub fn run(area: &mut [u64], c: usize, kind: Kind, trace: &[u8]) -> Tally
 pub fn batch(area: &mut [u64], kind: Kind, trace: &[u8], lent: Counts) -> Tally
     ensures { λ r. ⌜ BatchOutcome (policyOf kind) (now (trace .entry)) lent (now (area .entry)) (now (area .exit)) (ranIs (r .ran)) (r .counts) ⌝ }
 {
-    let number = calls::number(kind);
-    match opening::open(area, number) {
+    match opening::open(area, kind) {
         Opened::Cache(c) => run(area, c, kind, trace),
         Opened::Refused => Tally {
             ran: Ran::Refused,

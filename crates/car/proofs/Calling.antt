@@ -1,25 +1,20 @@
 -- CAR's rules obey the laws that both policies share. Assumes nothing.
 use mathlib.Core.Path.{_≡_, refl, sym, ap}
-use mathlib.Core.Bool.{true}
 use mathlib.Core.List.{_++_}
 use Prim.Native.Nat.{ℕ}
 use borrow.Author.Tests.{eq-eqb, ne-eqb}
 use Rattle.rules.specs.Calls.{Place, ghost, nowhere, Old, done}
 use Rattle.rules.specs.Stages.{goesTo}
-use Rattle.rules.specs.Car.{Car, touched, replace, missed, roomFor, admitted, insertAt, got, removed, inserted, does}
+use Rattle.rules.specs.Car.{Car, touched, missed, roomFor, admitted, insertAt, got, removed, inserted, does}
 use Rattle.rules.proofs.ListLaws.{found-page}
 use Rattle.rules.proofs.Closure.{car-call}
 use Rattle.rules.proofs.Sweep.{replace-swept}
 use Rattle.parts.specs.States.{residentAt, markedAt, removedAt, enteredAtEnd, newResident}
 use Rattle.calls.specs.Policy.{carPolicy}
 use Rattle.common.specs.Stages.{ofB2, entered}
-use Rattle.common.proofs.Lawful.{Stages, Lawful}
-use Rattle.common.proofs.Laws.{callNeeds}
-use Rattle.car.specs.Insert.{ready, made, updated}
+use Rattle.common.proofs.Lawful.{Lawful}
+use Rattle.car.specs.Insert.{ready, made, stages}
 use Rattle.car.proofs.Updating.{marked-framed}
-
-abbrev pub stages : Stages carPolicy
-stages = record { touched = λ e. markedAt e true; put = enteredAtEnd; ready = ready; made = made; replace = replace; admitted = admitted; updated = updated }
 
 -- the rules' own stages
 by-stages : (p : Place) (x f : ℕ) (s : Car) → insertAt p x f s ≡ entered (admitted (goesTo p) x f) (made (ofB2 p) (ready p x s))
@@ -46,5 +41,3 @@ lawful = record {
   frees = λ hit s t h q x. rw (sym q) (replace-swept hit s h .fewer x);
   puts = λ i x f s. refl;
 }
-
-pub ruleset callLaws = (lawful, callNeeds)

@@ -2,4 +2,3 @@
 pub mod Updating
 pub mod Calling
 pub mod Replacing
-pub mod Inserting

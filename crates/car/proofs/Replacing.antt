@@ -22,12 +22,11 @@ use Rattle.common.specs.Common.{HasResident, TurnIs}
 use Rattle.common.proofs.Finding.{state-c, slot-at, obeys}
 use Rattle.common.proofs.Turning.{turn-has}
 use Rattle.common.proofs.Staging.{then-left}
-use Rattle.common.proofs.Entering.{can-displaces}
-use Rattle.common.proofs.Replacing.{puts-can}
-use Rattle.car.specs.Replace.{StepIs, Chooses}
+use Rattle.calls.specs.Policy.{carPolicy}
+use Rattle.common.specs.Stages.{Chooses}
+use Rattle.car.specs.Replace.{StepIs}
 use Rattle.car.specs.declared.Stepped as declaredStep
 use Rattle.car.specs.declared.Stepped.the-variants.{Passed, Meets}
-use Rattle.car.proofs.Calling.{lawful}
 
 pub turn-stored : (c : ℕ) (w : List ℕ) → HasResident c w → Stored c w
 turn-stored c w h = h .stored
@@ -138,7 +137,7 @@ module _ (c : ℕ) (w₀ w : List ℕ) (hit : Bool) (n : ℕ) (h : Sweeps c w₀
           bound = omega (arith, h .bound, p .marks);
         }
 
-    pub sweep-ends : (i e : ℕ) → r ≡ Meets i e → Chooses c w₀ v hit (record { list = i; slot = e; steps = n })
+    pub sweep-ends : (i e : ℕ) → r ≡ Meets i e → Chooses carPolicy replace c w₀ v hit (record { list = i; slot = e; steps = n })
     sweep-ends i e q =
         let m = step-as (Meets i e) q in
         rw (m .same)
@@ -151,8 +150,6 @@ module _ (c : ℕ) (w₀ w : List ℕ) (hit : Bool) (n : ℕ) (h : Sweeps c w₀
         })
 
 pub ruleset replaceLaws = (
-  lawful,
-  can-displaces,
   turn-stored,
   turn-has,
   step-slot,
@@ -164,6 +161,5 @@ pub ruleset replaceLaws = (
   sweep-falls,
   sweep-again,
   sweep-ends,
-  puts-can,
   needs,
 )

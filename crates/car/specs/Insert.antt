@@ -4,8 +4,10 @@ use Prim.Native.Nat.{ℕ}
 use Rattle.rules.specs.State.{withFrame, full}
 use Rattle.rules.specs.Calls.{Place, ghost, nowhere, Old, Done, done, Replaced, replaceIf}
 use Rattle.rules.specs.Stages.{ghostHit}
-use Rattle.rules.specs.Car.{Car, car, withBit, touched, replace}
-use Rattle.parts.specs.States.{residentAt}
+use Rattle.rules.specs.Car.{Car, car, withBit, touched, replace, admitted}
+use Rattle.parts.specs.States.{residentAt, markedAt, enteredAtEnd}
+use Rattle.calls.specs.Policy.{carPolicy}
+use Rattle.common.specs.Stages.{Stages}
 
 -- what comes before "replace if full", by where the page is
 abbrev pub ready : Place → ℕ → Car → Car
@@ -19,3 +21,7 @@ made hit s = replaceIf (full (s .lists)) (replace hit) s
 -- an update of the resident of slot e: the new frame and the bit; the answer is the old frame
 abbrev pub updated : ℕ → ℕ → Car → Done Car
 updated e f s = done (Old (residentAt e s .frame)) (touched (residentAt e s .page) (λ r. withBit true (withFrame f r)) s)
+
+-- CAR in stages
+abbrev pub stages : Stages carPolicy
+stages = record { touched = λ e. markedAt e true; put = enteredAtEnd; ready = ready; made = made; replace = replace; admitted = admitted; updated = updated }

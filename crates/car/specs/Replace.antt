@@ -10,11 +10,9 @@ use Rattle.parts.specs.States.{evictedAt}
 use Rattle.area.specs.Area.{sideOf}
 use Rattle.area.specs.Stored.{stateIn, Left}
 use Rattle.store.specs.Store.{HasSlot}
-use Rattle.calls.specs.Policy.{carPolicy}
-use Rattle.common.specs.Stages.{outOf, Chosen}
+use Rattle.common.specs.Stages.{outOf}
 use Rattle.car.specs.declared.Stepped as declaredStep
 use Rattle.car.specs.declared.Stepped.the-variants.{Passed, Meets}
-use Rattle.car.specs.declared.Victim.{Victim}
 
 -- a step that puts nobody out: a replacement is that step, and then the replacement of what it leaves; one mark is cleared
 pub record Passes (c : ℕ) (w v : List ℕ) (hit : Bool) : Type 0 where
@@ -33,7 +31,3 @@ pub record Meeting (c : ℕ) (w v : List ℕ) (hit : Bool) (i e : ℕ) : Type 0 
 abbrev pub StepIs : ℕ → List ℕ → List ℕ → Bool → declaredStep.Stepped → Type 0
 StepIs c w v hit Passed = Passes c w v hit
 StepIs c w v hit (Meets i e) = Meeting c w v hit i e
-
--- a whole replacement but for the putting out: v is the area after its steps, and r the victim
-abbrev pub Chooses : ℕ → List ℕ → List ℕ → Bool → Victim → Type 0
-Chooses c w v hit r = Chosen carPolicy replace c w v hit (r .list) (r .slot) (r .steps)

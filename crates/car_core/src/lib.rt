@@ -14,7 +14,6 @@ use calls::Kind;
 use fresh::Made;
 use listing::Listed;
 use listing::Record;
-use opening::Opened;
 ghost use mathlib.Core.Path.{_≡_};
 ghost use Prim.Native.Nat.{min};
 ghost use Rattle.rules.specs.State.{maxCapacity};
@@ -32,9 +31,6 @@ pub struct CarCore {}
 impl CarCore {
     pub const MAX_CAPACITY: u64 = 1024;
 
-    // The kind in the header of an area of CAR.
-    const KIND: u64 = 2;
-
     // The words that a cache of capacity c needs, 24c + 64. Past the largest capacity, which `new` refuses, those of the largest.
     pub fn words(c: u64) -> u64
         ensures { λ r. ⌜ r ≡ wordsNeeded (min c maxCapacity) ⌝ }
@@ -49,135 +45,93 @@ impl CarCore {
     pub fn new(area: &mut [u64], c: u64) -> Made
         ensures { λ r. ⌜ Making carPolicy c (now (area .entry)) (now (area .exit)) (madeIs r) ⌝ }
     {
-        fresh::new(area, Self::KIND, c)
+        public::new(area, Kind::Car, c)
     }
 
     // The frame of a page, or a miss. Its bit is set.
     pub fn get(area: &mut [u64], page: u64) -> Got
         ensures { λ r. ⌜ Outcome carPolicy (Get page) (now (area .entry)) (now (area .exit)) (gotIs r) ⌝ }
     {
-        match opening::open(area, Self::KIND) {
-            Opened::Cache(c) => car::get(area, c, page),
-            Opened::Refused => Got::Refused,
-        }
+        public::get(area, Kind::Car, page)
     }
 
     // The same, and nothing changes.
     pub fn peek(area: &[u64], page: u64) -> Seen
         ensures { λ r. ⌜ Told carPolicy (Peek page) (now (area .entry)) (seenIs r) ⌝ }
     {
-        match opening::open(area, Self::KIND) {
-            Opened::Cache(c) => car::peek(area, c, page),
-            Opened::Refused => Seen::Refused,
-        }
+        public::peek(area, Kind::Car, page)
     }
 
     // Whether a page is resident.
     pub fn contains(area: &[u64], page: u64) -> Held
         ensures { λ r. ⌜ Told carPolicy (Contains page) (now (area .entry)) (heldIs r) ⌝ }
     {
-        match opening::open(area, Self::KIND) {
-            Opened::Cache(c) => Held::Holds(car::contains(area, c, page)),
-            Opened::Refused => Held::Refused,
-        }
+        public::contains(area, Kind::Car, page)
     }
 
     // A page and its frame come in; the answer names the page that went out for it, if one did.
     pub fn insert(area: &mut [u64], page: u64, frame: u32) -> Inserted
         ensures { λ r. ⌜ Outcome carPolicy (Insert page frame) (now (area .entry)) (now (area .exit)) (insertedIs r) ⌝ }
     {
-        match opening::open(area, Self::KIND) {
-            Opened::Cache(c) => car::insert(area, c, page, frame),
-            Opened::Refused => Inserted::Refused,
-        }
+        public::insert(area, Kind::Car, page, frame)
     }
 
     // A page leaves; the ghosts stay.
     pub fn remove(area: &mut [u64], page: u64) -> Gone
         ensures { λ r. ⌜ Outcome carPolicy (Remove page) (now (area .entry)) (now (area .exit)) (goneIs r) ⌝ }
     {
-        match opening::open(area, Self::KIND) {
-            Opened::Cache(c) => car::remove(area, c, page),
-            Opened::Refused => Gone::Refused,
-        }
+        public::remove(area, Kind::Car, page)
     }
 
     // All lists are empty again, and the target is c / 2.
     pub fn clear(area: &mut [u64]) -> Cleared
         ensures { λ r. ⌜ Outcome carPolicy Clear (now (area .entry)) (now (area .exit)) (clearedIs r) ⌝ }
     {
-        match opening::open(area, Self::KIND) {
-            Opened::Cache(c) => {
-                car::clear(area, c);
-                Cleared::Cleared
-            }
-            Opened::Refused => Cleared::Refused,
-        }
+        public::clear(area, Kind::Car)
     }
 
     // How many pages are resident; how many may be.
     pub fn len(area: &[u64]) -> Counted
         ensures { λ r. ⌜ Told carPolicy Len (now (area .entry)) (countedIs r) ⌝ }
     {
-        match opening::open(area, Self::KIND) {
-            Opened::Cache(c) => Counted::Number(car::len(area, c) as u64),
-            Opened::Refused => Counted::Refused,
-        }
+        public::len(area, Kind::Car)
     }
 
     pub fn capacity(area: &[u64]) -> Counted
         ensures { λ r. ⌜ Told carPolicy Capacity (now (area .entry)) (countedIs r) ⌝ }
     {
-        match opening::open(area, Self::KIND) {
-            Opened::Cache(c) => Counted::Number(car::capacity(area, c) as u64),
-            Opened::Refused => Counted::Refused,
-        }
+        public::capacity(area, Kind::Car)
     }
 
     // The target, and the lengths of the recent and the frequent clock, B1 and B2.
     pub fn p_value(area: &[u64]) -> Counted
         ensures { λ r. ⌜ Told carPolicy Target (now (area .entry)) (countedIs r) ⌝ }
     {
-        match opening::open(area, Self::KIND) {
-            Opened::Cache(c) => Counted::Number(car::p_value(area, c)),
-            Opened::Refused => Counted::Refused,
-        }
+        public::p_value(area, Kind::Car)
     }
 
     pub fn t1_len(area: &[u64]) -> Counted
         ensures { λ r. ⌜ Told carPolicy T1Len (now (area .entry)) (countedIs r) ⌝ }
     {
-        match opening::open(area, Self::KIND) {
-            Opened::Cache(c) => Counted::Number(car::t1_len(area, c) as u64),
-            Opened::Refused => Counted::Refused,
-        }
+        public::t1_len(area, Kind::Car)
     }
 
     pub fn t2_len(area: &[u64]) -> Counted
         ensures { λ r. ⌜ Told carPolicy T2Len (now (area .entry)) (countedIs r) ⌝ }
     {
-        match opening::open(area, Self::KIND) {
-            Opened::Cache(c) => Counted::Number(car::t2_len(area, c) as u64),
-            Opened::Refused => Counted::Refused,
-        }
+        public::t2_len(area, Kind::Car)
     }
 
     pub fn b1_len(area: &[u64]) -> Counted
         ensures { λ r. ⌜ Told carPolicy B1Len (now (area .entry)) (countedIs r) ⌝ }
     {
-        match opening::open(area, Self::KIND) {
-            Opened::Cache(c) => Counted::Number(car::b1_len(area, c) as u64),
-            Opened::Refused => Counted::Refused,
-        }
+        public::b1_len(area, Kind::Car)
     }
 
     pub fn b2_len(area: &[u64]) -> Counted
         ensures { λ r. ⌜ Told carPolicy B2Len (now (area .entry)) (countedIs r) ⌝ }
     {
-        match opening::open(area, Self::KIND) {
-            Opened::Cache(c) => Counted::Number(car::b2_len(area, c) as u64),
-            Opened::Refused => Counted::Refused,
-        }
+        public::b2_len(area, Kind::Car)
     }
 
     // A batch: runs a trace on the area, and answers the operations done, or the refusal. The counts are this batch's, those before a

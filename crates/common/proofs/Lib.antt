@@ -4,9 +4,5 @@ pub mod Turning
 pub mod Hitting
 pub mod Staging
 pub mod Lawful
-pub mod Asking
 pub mod Entering
-pub mod Replacing
-pub mod Inserting
-pub mod Updating
 pub mod Laws

@@ -5,7 +5,7 @@ use mathlib.Core.Option.{none}
 use mathlib.Core.List.{List}
 use Prim.Native.Nat.{ℕ, _<_}
 use lib.ListN.{length, drop}
-use Rattle.rules.specs.State.{resident, seen}
+use Rattle.rules.specs.State.{Side, resident, seen}
 use Rattle.rules.specs.Calls.{Place, New, ghost, nowhere, Victim, out, Replaced, steps, Done, done}
 use Rattle.rules.specs.Stages.{placeOf, isB2, goesTo}
 use Rattle.rules.specs.Car.{Car}
@@ -18,6 +18,7 @@ use Rattle.answers.specs.Answers.{insertedIs}
 use Rattle.answers.specs.declared.Inserted.{Inserted}
 use Rattle.calls.specs.Policy.{Policy, stateOf}
 use Rattle.common.specs.Common.{HasResident}
+use Rattle.common.specs.declared.Victim as victim
 use Rattle.common.specs.declared.Way as way
 use Rattle.common.specs.declared.Way.the-variants as ways
 
@@ -63,6 +64,18 @@ entered put m = done (New (m .victim) (steps m)) (put (m .state))
 abbrev pub outOf : ℕ → ℕ → Car → Victim
 outOf i e s = out (residentAt e s .page) (residentAt e s .frame) (ghost (sideOf i))
 
+-- ---- what a policy does, in stages
+pub record Stages (P : Policy) : Type 0 where
+  -- by the store: a hit of the resident of slot e; a new page with its bit
+  pub touched : ℕ → Car → Car
+  pub put : Side → ℕ → ℕ → Bool → Car → Car
+  -- by the rules: what comes before "replace if full", that, and the replacement; the entry of a page; an update of the resident of slot e
+  pub ready : Place → ℕ → P .State → P .State
+  pub made : Bool → P .State → Replaced (P .State)
+  pub replace : Bool → P .State → Replaced (P .State)
+  pub admitted : Side → ℕ → ℕ → P .State → P .State
+  pub updated : ℕ → ℕ → Car → Done (P .State)
+
 module _ (P : Policy) where
   -- ---- what is left: an area that the policy reads as s, of the same kind and length, and with nothing past the area's need changed
   pub record Stage (c : ℕ) (w v : List ℕ) (s : P .State) : Type 0 where
@@ -98,3 +111,6 @@ module _ (P : Policy) where
     pub victim : replace hit (stateOf P c w) .victim ≡ outOf i e (stateIn c v)
     pub state : replace hit (stateOf P c w) .state ≡ P .view (evictedAt (sideOf i) e (stateIn c v))
     pub steps : steps (replace hit (stateOf P c w)) ≡ n
+
+  abbrev pub Chooses : (replace : Bool → P .State → Replaced (P .State)) → ℕ → List ℕ → List ℕ → Bool → victim.Victim → Type 0
+  Chooses replace c w v hit r = Chosen replace c w v hit (r .list) (r .slot) (r .steps)

@@ -22,6 +22,13 @@ pub enum Way {
     Comes(usize, bool),
 }
 
+// The victim of a replacement: its list (0 for T1, 1 for T2), its slot, and the steps of the replacement, the one that puts it out among them.
+pub struct Victim {
+    pub list: usize,
+    pub slot: usize,
+    pub steps: u64,
+}
+
 // The slot of the resident of page x.
 pub fn slot_of(a: &[u64], c: usize, x: u64) -> Slot
     requires { ⌜ Stored c (now a) ⌝ }

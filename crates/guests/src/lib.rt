@@ -9,6 +9,7 @@
 use answers::Got;
 use answers::Inserted;
 use arc_core::ArcCore;
+use calls::Kind;
 use fresh::Made;
 use opening::Opened;
 ghost use mathlib.Core.Path.{_≡_};
@@ -55,11 +56,11 @@ fn fault(area: &mut [u64], page: u64, frame: u32) -> Served
     ensures { λ r. ⌜ Faulted page frame (now (area .entry)) (now (area .exit)) (servedIs r) ⌝ }
 {
     let c = area::capacity(area) as usize;
-    let got = arc::get(area, c, page);
+    let got = cache::get(area, c, Kind::Arc, page);
     match got {
         Got::Hit(f) => Served::Resident(f),
         Got::Miss => {
-            let r = arc::insert(area, c, page, frame);
+            let r = cache::insert(area, c, Kind::Arc, page, frame);
             Served::Filled(r)
         }
         // An inner call never refuses: it is proved that this is not reached.
@@ -124,7 +125,7 @@ fn ready(words: &[u64], guest: usize) -> bool
 {
     let a = guest * 1600;
     let b = a + 1600;
-    match opening::open(&words[a..b], 1) {
+    match opening::open(&words[a..b], Kind::Arc) {
         Opened::Cache(_) => true,
         Opened::Refused => false,
     }

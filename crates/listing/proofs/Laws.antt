@@ -25,6 +25,7 @@ use Rattle.calls.specs.declared.Kind.the-variants as kinds
 use Rattle.opening.specs.Opening.{Holding, Opens}
 use Rattle.opening.specs.declared.Opened.{Opened}
 use Rattle.opening.specs.declared.Opened.the-variants as opened
+use Rattle.opening.proofs.Public.{opens-as}
 use Rattle.listing.specs.Order.{takenFrom, past}
 use Rattle.listing.specs.Steps.{orderIn, recordAt, planOf, StandsIn, Stands, Follows, StepIs}
 use Rattle.listing.specs.declared.Listed.the-variants.{Count, Room, Refused}
@@ -127,16 +128,13 @@ module _ (kind : Kind) (c : ℕ) (w : List ℕ) (h : Holding (policyOf kind .kin
     unfolding planOf
     plan-count room first l z = rw (h .test, sym count-is, le-ltb room (a + b) l, z, h .capacity) refl
 
-module _ (kind : Kind) (w : List ℕ) (k : ℕ) (is : k ≡ policyOf kind .kind) (o : Opened) (h : Opens k w o) where
-  opens-as : (a : Opened) → o ≡ a → Opens (policyOf kind .kind) w a
-  opens-as a q = rw (sym q, sym is) h
-
+module _ (kind : Kind) (w : List ℕ) (o : Opened) (h : Opens (policyOf kind .kind) w o) where
   pub plan-refused : (room : ℕ) → o ≡ opened.Refused → record { answer = Refused; count = 0; first = 0 } ≡ planOf kind w room
   unfolding planOf
-  plan-refused room q = rw (opens-as opened.Refused q) refl
+  plan-refused room q = rw (opens-as (policyOf kind) o w h opened.Refused q) refl
 
   pub plan-asks : (c : ℕ) → o ≡ opened.Cache c → Holding (policyOf kind .kind) c w
-  plan-asks c q = opens-as (opened.Cache c) q
+  plan-asks c q = opens-as (policyOf kind) o w h (opened.Cache c) q
 
 pub ruleset laws = (
   onward-end,

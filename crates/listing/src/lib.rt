@@ -126,8 +126,7 @@ fn prepare_in(area: &[u64], kind: Kind, c: usize, room: usize) -> Plan
 pub fn prepare(area: &[u64], kind: Kind, room: usize) -> Plan
     ensures { λ r. ⌜ r ≡ planOf kind (now (area .entry)) room ⌝ }
 {
-    let k = calls::number(kind);
-    match opening::open(area, k) {
+    match opening::open(area, kind) {
         Opened::Cache(c) => prepare_in(area, kind, c, room),
         Opened::Refused => Plan {
             answer: Listed::Refused,

@@ -16,7 +16,7 @@ use Rattle.opening.specs.declared.Opened.{Opened}
 use Rattle.opening.specs.declared.Opened.the-variants.{Cache, Refused}
 
 module _ (P : Policy) (r : Opened) (w : List ℕ) (h : Opens (P .kind) w r) where
-  opens-as : (a : Opened) → r ≡ a → Opens (P .kind) w a
+  pub opens-as : (a : Opened) → r ≡ a → Opens (P .kind) w a
   opens-as a q = subst (λ (y : Opened). Opens (P .kind) w y) q h
 
   -- ---- opened

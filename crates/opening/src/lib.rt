@@ -1,5 +1,7 @@
-// The way from any words to an inner call: the state check, and the capacity of the cache that the words hold. ARC's public calls and CAR's
-// start here, with the kind 1 and 2.
+// The way from any words to an inner call: the state check, and the capacity of the cache that the words hold. Every
+// public call starts here.
+use calls::Kind;
+ghost use Rattle.calls.specs.Policy.{policyOf};
 ghost use Rattle.opening.specs.Opening.{Opens};
 
 // The capacity of the cache in an area, or refusal 3.
@@ -9,10 +11,11 @@ pub enum Opened {
 }
 
 // The cache of that kind that the words hold, whatever they are.
-pub fn open(area: &[u64], kind: u64) -> Opened
-    ensures { λ r. ⌜ Opens kind (now (area .entry)) r ⌝ }
+pub fn open(area: &[u64], kind: Kind) -> Opened
+    ensures { λ r. ⌜ Opens (policyOf kind .kind) (now (area .entry)) r ⌝ }
 {
-    if state_check::check(area, kind) {
+    let number = calls::number(kind);
+    if state_check::check(area, number) {
         let c = area[1] as usize;
         return Opened::Cache(c);
     }

@@ -13,10 +13,9 @@ use Rattle.answers.specs.declared.Seen.{Seen}
 use Rattle.answers.specs.declared.Gone.{Gone}
 use Rattle.answers.specs.declared.Inserted.{Inserted}
 use Rattle.answers.specs.declared.Reply.the-variants as reply
-use Rattle.calls.specs.Policy.{Policy, arcPolicy, carPolicy, policyOf, stateOf}
+use Rattle.calls.specs.Policy.{Policy, policyOf, stateOf}
 use Rattle.calls.specs.Inner.{Good, Did, Says}
 use Rattle.calls.specs.declared.Kind.{Kind}
-use Rattle.calls.specs.declared.Kind.the-variants as kinds
 use Rattle.calls.proofs.Exact.{exact-of}
 
 module _ (P : Policy) (c : ℕ) (w v : List ℕ) (op : Operation) where
@@ -44,24 +43,4 @@ peeked k c w op x r e g s =
     made P c w w op (Ask (Peek x)) (seenIs r) (rw e refl)
     (record { good = g; state = sym (exact-of k .asks (Peek x) (stateOf P c w)); answer = s .answer; size = refl; rest = refl })
 
--- ---- by the kind
-module _ (k : Kind) (c : ℕ) (w : List ℕ) where
-  pub arc-good : k ≡ kinds.Arc → Good (policyOf k) c w → Good arcPolicy c w
-  arc-good e g = subst (λ (j : Kind). Good (policyOf j) c w) e g
-
-  pub car-good : k ≡ kinds.Car → Good (policyOf k) c w → Good carPolicy c w
-  car-good e g = subst (λ (j : Kind). Good (policyOf j) c w) e g
-
-  pub arc-did : (v : List ℕ) (call : Call) (a : Answer) → k ≡ kinds.Arc → Did arcPolicy call c w v a → Did (policyOf k) call c w v a
-  arc-did v call a e d = subst (λ (j : Kind). Did (policyOf j) call c w v a) (sym e) d
-
-  pub car-did : (v : List ℕ) (call : Call) (a : Answer) → k ≡ kinds.Car → Did carPolicy call c w v a → Did (policyOf k) call c w v a
-  car-did v call a e d = subst (λ (j : Kind). Did (policyOf j) call c w v a) (sym e) d
-
-  pub arc-says : (q : Question) (a : Answer) → k ≡ kinds.Arc → Says arcPolicy q c w a → Says (policyOf k) q c w a
-  arc-says q a e s = subst (λ (j : Kind). Says (policyOf j) q c w a) (sym e) s
-
-  pub car-says : (q : Question) (a : Answer) → k ≡ kinds.Car → Says carPolicy q c w a → Says (policyOf k) q c w a
-  car-says q a e s = subst (λ (j : Kind). Says (policyOf j) q c w a) (sym e) s
-
-pub ruleset laws = (did-get, did-insert, did-remove, did-clear, peeked, arc-good, car-good, arc-did, car-did, arc-says, car-says, needs)
+pub ruleset laws = (did-get, did-insert, did-remove, did-clear, peeked, needs)

@@ -27,8 +27,8 @@ pub stays-ready : (k : Kind) (c : ℕ) (trace w v : List ℕ) (r : Tally) → Fi
 unfolding Ready
 stays-ready k c trace w v r d = d .good
 
-pub opens-ready : (k : Kind) (n : ℕ) (o : Opened) (w : List ℕ) (c : ℕ) → n ≡ policyOf k .kind → Opens n w o → o ≡ Cache c → Ready k c w
+pub opens-ready : (k : Kind) (o : Opened) (w : List ℕ) (c : ℕ) → Opens (policyOf k .kind) w o → o ≡ Cache c → Ready k c w
 unfolding Ready
-opens-ready k n o w c e h q = opened k n o w e h c q
+opens-ready k o w c h q = opened k o w h c q
 
 pub ruleset laws = (prefix-length, asks-good, stays-ready, opens-ready, needs)

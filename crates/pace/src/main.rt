@@ -362,7 +362,7 @@ fn run_once(
     let kind = job.kind;
     let header = calls::number(kind);
     fresh::new(area, header, job.capacity);
-    match opening::open(area, header) {
+    match opening::open(area, kind) {
         Opened::Cache(c) => run_eight(area, c, kind, b1, b2, b3, b4, b5, b6, b7, b8, front, back),
         Opened::Refused => start(),
     }

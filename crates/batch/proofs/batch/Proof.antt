@@ -3,9 +3,6 @@ use Rattle.batch.proofs.Passing.{laws}
 use Rattle.batch.proofs.batch.Statement.{statement}
 use Rattle.batch.proofs.batch.Tie as tie
 
-number-requires : tie.Need-number-requires
-number-requires c κs = search laws
-
 open-requires : tie.Need-open-requires
 open-requires c κs = search laws
 
@@ -34,7 +31,6 @@ pub batch-spec : {M : Type 1} → statement M
 batch-spec =
     tie.close
     (tie.spec
-    number-requires
     open-requires
     enum-known-c
     run-requires

@@ -3,9 +3,6 @@ use Rattle.listing.proofs.Laws.{laws}
 use Rattle.listing.proofs.prepare.Statement.{statement}
 use Rattle.listing.proofs.prepare.Tie as tie
 
-number-requires : tie.Need-number-requires
-number-requires c κs = search laws
-
 open-requires : tie.Need-open-requires
 open-requires c κs = search laws
 
@@ -28,7 +25,6 @@ pub prepare-spec : {M : Type 1} → statement M
 prepare-spec =
     tie.close
     (tie.spec
-    number-requires
     open-requires
     enum-known-c
     prepare-in-requires

@@ -1,0 +1,13 @@
+-- `cache::len` meets its contract. Assumes nothing.
+use Rattle.cache.proofs.Laws.{callLaws}
+use Rattle.cache.proofs.len.Statement.{statement}
+use Rattle.cache.proofs.len.Tie as tie
+
+residents-requires : tie.Need-residents-requires
+residents-requires c κs = search callLaws
+
+returns : tie.Need-returns
+returns c = search callLaws
+
+pub len-spec : {M : Type 1} → statement M
+len-spec = tie.close (tie.spec residents-requires returns)

@@ -1,0 +1,2 @@
+-- The definitions that the contracts of `cache` cite. Assumes nothing.
+pub mod Kinds

@@ -1,7 +1,0 @@
--- `car_core::CarCore::get` meets its contract: by the laws of `opening`, at each need in the order of the code. Assumes nothing.
-use Rattle.opening.proofs.Public.{laws}
-use Rattle.car_core.proofs.CarCore.get.Statement.{statement}
-use Rattle.car_core.proofs.CarCore.get.Tie as tie
-
-pub get-spec : {M : Type 1} → statement M
-get-spec = tie.close (tie.spec (λ c κs. search laws) (λ c. search laws) (λ c κs. search laws) (λ c. search laws) (λ c. search laws) (λ c. search laws) (λ c. search laws) (λ c. search laws))

@@ -1,0 +1,2 @@
+-- The laws that answer the needs of `public`. Assumes nothing.
+pub mod Laws
