@@ -1,0 +1,4 @@
+-- Every well-formed state has a writing. Assumes nothing.
+pub mod Words
+pub mod Changes
+pub mod Sizes
