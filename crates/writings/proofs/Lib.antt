@@ -2,3 +2,6 @@
 pub mod Words
 pub mod Changes
 pub mod Sizes
+pub mod Steps
+pub mod Free
+pub mod Building
