@@ -5,3 +5,6 @@ pub mod Sizes
 pub mod Steps
 pub mod Free
 pub mod Building
+pub mod Laying
+pub mod Slotting
+pub mod Every
