@@ -8,3 +8,4 @@ pub mod Building
 pub mod Laying
 pub mod Slotting
 pub mod Every
+pub mod Cases
