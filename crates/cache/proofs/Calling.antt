@@ -2,7 +2,6 @@
 use mathlib.Core.Path.{_≡_, refl, sym, subst, ap, _∙_}
 use mathlib.Core.List.{List}
 use Prim.Native.Nat.{ℕ, _^_, _<_}
-use Rattle.rules.specs.State.{resident}
 use Rattle.rules.specs.Calls.{Call, Get, Insert, Remove, Clear, InRange, Answer, Hit, Miss, None, Gone, Absent, Cleared, Done, done}
 use Rattle.rules.specs.Car.{Car, new}
 use Rattle.parts.specs.States.{residentAt, removedAt}

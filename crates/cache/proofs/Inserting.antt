@@ -6,7 +6,7 @@ use Prim.Native.Nat.{ℕ, _^_, _<_, _≤_}
 use native.Mathlib.Omega.{arith}
 use lib.Dec.{eqb}
 use Rattle.rules.specs.State.{Side, residents, seen}
-use Rattle.rules.specs.Calls.{Insert, Place, ghost, nowhere, Done}
+use Rattle.rules.specs.Calls.{Insert, ghost, nowhere, Done}
 use Rattle.rules.specs.Stages.{isB2, goesTo}
 use Rattle.area.specs.Area.{sideOf}
 use Rattle.area.specs.Stored.{stateIn, Left}
@@ -24,7 +24,7 @@ use Rattle.common.specs.declared.Way.the-variants.{Stays, Comes}
 use Rattle.common.proofs.Finding.{state-c, found-as}
 use Rattle.common.proofs.Staging.{staged, then-gives}
 use Rattle.common.proofs.Entering.{found-nowhere, found-recent, found-frequent, is-full, not-full, hit-can, can-come}
-use Rattle.calls.specs.Policy.{Policy, policyOf, stateOf}
+use Rattle.calls.specs.Policy.{policyOf, stateOf}
 use Rattle.calls.specs.declared.Kind.{Kind}
 use Rattle.cache.specs.Kinds.{stagesOf}
 use Rattle.cache.proofs.Both.{lawful}

@@ -11,8 +11,7 @@ use Rattle.rules.specs.Arc.{trimmed}
 use Rattle.rules.specs.Arc as arcs
 use Rattle.rules.specs.Car as cars
 use Rattle.rules.specs.Car.{Car}
-use Rattle.parts.specs.States.{frontedAt, markedAt, enteredAtFront, enteredAtEnd, evictedAt}
-use Rattle.area.specs.Area.{sideOf}
+use Rattle.parts.specs.States.{frontedAt, markedAt, enteredAtFront, enteredAtEnd}
 use Rattle.area.specs.Stored.{Stored, stateIn, Left, arcOf}
 use Rattle.store.specs.Store.{FoundIs, Evicts}
 use Rattle.store.specs.declared.Found.{Found}

@@ -5,7 +5,7 @@ use Prim.Native.Nat.{ℕ}
 use borrow.Author.Needs.{needs}
 use Rattle.trace.specs.declared.Operation.{Operation}
 use Rattle.trace.specs.declared.Operation.the-variants as operation
-use Rattle.rules.specs.Calls.{Call, Get, Insert, Remove, Clear, Ask, Question, Peek, Answer, Cleared}
+use Rattle.rules.specs.Calls.{Call, Get, Insert, Remove, Clear, Ask, Peek, Answer, Cleared}
 use Rattle.rules.specs.Batch.{callOf}
 use Rattle.answers.specs.Answers.{gotIs, seenIs, goneIs, insertedIs, replyIs}
 use Rattle.answers.specs.declared.Got.{Got}
