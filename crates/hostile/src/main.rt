@@ -7,9 +7,7 @@ use answers::Counted;
 use answers::Gone;
 use answers::Got;
 use answers::Inserted;
-use arc_core::ArcCore;
 use calls::Kind;
-use car_core::CarCore;
 ghost use mathlib.Core.Path.{_≡_};
 ghost use Prim.Native.Nat.{_<_};
 ghost use lib.ListN.{length};
@@ -71,34 +69,13 @@ fn unchanged(area: &[u64], bytes: &[u8]) -> bool {
 
 // ---- the calls
 
-fn len(area: &[u64], kind: Kind) -> Counted {
-    match kind {
-        Kind::Arc => ArcCore::len(area),
-        Kind::Car => CarCore::len(area),
-    }
-}
-
-fn get(area: &mut [u64], kind: Kind) -> Got {
-    match kind {
-        Kind::Arc => ArcCore::get(area, 5),
-        Kind::Car => CarCore::get(area, 5),
-    }
-}
-
 fn get_refused(area: &mut [u64], kind: Kind) -> bool {
-    let r = get(area, kind);
+    let r = public::get(area, kind, 5);
     if let Got::Refused = r { true } else { false }
 }
 
-fn insert(area: &mut [u64], kind: Kind) -> Inserted {
-    match kind {
-        Kind::Arc => ArcCore::insert(area, 5, 7),
-        Kind::Car => CarCore::insert(area, 5, 7),
-    }
-}
-
 fn insert_refused(area: &mut [u64], kind: Kind) -> bool {
-    let r = insert(area, kind);
+    let r = public::insert(area, kind, 5, 7);
     if let Inserted::Refused = r {
         true
     } else {
@@ -106,27 +83,13 @@ fn insert_refused(area: &mut [u64], kind: Kind) -> bool {
     }
 }
 
-fn remove(area: &mut [u64], kind: Kind) -> Gone {
-    match kind {
-        Kind::Arc => ArcCore::remove(area, 5),
-        Kind::Car => CarCore::remove(area, 5),
-    }
-}
-
 fn remove_refused(area: &mut [u64], kind: Kind) -> bool {
-    let r = remove(area, kind);
+    let r = public::remove(area, kind, 5);
     if let Gone::Refused = r { true } else { false }
 }
 
-fn clear(area: &mut [u64], kind: Kind) -> Cleared {
-    match kind {
-        Kind::Arc => ArcCore::clear(area),
-        Kind::Car => CarCore::clear(area),
-    }
-}
-
 fn clear_refused(area: &mut [u64], kind: Kind) -> bool {
-    let r = clear(area, kind);
+    let r = public::clear(area, kind);
     if let Cleared::Refused = r {
         true
     } else {
@@ -169,7 +132,7 @@ fn put_refused(area: &mut [u64], kind: Kind, bytes: &[u8]) {
 }
 
 fn put_kind(area: &mut [u64], kind: Kind, bytes: &[u8]) {
-    match len(area, kind) {
+    match public::len(area, kind) {
         Counted::Number(n) => telling::field(b"ok ", n),
         Counted::Refused => put_refused(area, kind, bytes),
     }

@@ -1,16 +1,10 @@
 // The test program `states` (oracle/README.md): on each case of standard input the answers, the state after each operation, the counts of the
 // batch and the listing. The operations are public calls; the states are read from the words of the area by docs/LAYOUT.md, and not by the
 // library, so that this is a second reading of them. What is right, crates/states/stdout, comes from the Rust oracle (oracle/make_vectors).
-use answers::Gone;
-use answers::Got;
 use answers::Inserted;
 use answers::Reply;
-use answers::Seen;
-use arc_core::ArcCore;
 use batch::Counts;
-use batch::Tally;
 use calls::Kind;
-use car_core::CarCore;
 use listing::Record;
 use numbers::Frame;
 use trace::Cursor;
@@ -337,56 +331,6 @@ fn put_stop(refusal: u8, offset: u64) {
 
 // ---- the calls
 
-fn get(area: &mut [u64], kind: Kind, page: u64) -> Got {
-    match kind {
-        Kind::Arc => ArcCore::get(area, page),
-        Kind::Car => CarCore::get(area, page),
-    }
-}
-
-fn insert(area: &mut [u64], kind: Kind, page: u64, frame: u32) -> Inserted {
-    match kind {
-        Kind::Arc => ArcCore::insert(area, page, frame),
-        Kind::Car => CarCore::insert(area, page, frame),
-    }
-}
-
-fn remove(area: &mut [u64], kind: Kind, page: u64) -> Gone {
-    match kind {
-        Kind::Arc => ArcCore::remove(area, page),
-        Kind::Car => CarCore::remove(area, page),
-    }
-}
-
-fn clear(area: &mut [u64], kind: Kind) {
-    match kind {
-        Kind::Arc => {
-            ArcCore::clear(area);
-        }
-        Kind::Car => {
-            CarCore::clear(area);
-        }
-    }
-}
-
-fn peek(area: &[u64], kind: Kind, page: u64) -> Seen {
-    match kind {
-        Kind::Arc => ArcCore::peek(area, page),
-        Kind::Car => CarCore::peek(area, page),
-    }
-}
-
-fn make(area: &mut [u64], kind: Kind, c: u64) {
-    match kind {
-        Kind::Arc => {
-            ArcCore::new(area, c);
-        }
-        Kind::Car => {
-            CarCore::new(area, c);
-        }
-    }
-}
-
 // The replacement steps that an answer tells.
 fn steps_of(inserted: Inserted) -> u64 {
     match inserted {
@@ -397,31 +341,31 @@ fn steps_of(inserted: Inserted) -> u64 {
 
 // Each call, with its line.
 fn run_get(area: &mut [u64], kind: Kind, page: u64) -> u64 {
-    let r = get(area, kind, page);
+    let r = public::get(area, kind, page);
     put_reply(Reply::Got(r));
     0
 }
 
 fn run_insert(area: &mut [u64], kind: Kind, page: u64, frame: u32) -> u64 {
-    let r = insert(area, kind, page, frame);
+    let r = public::insert(area, kind, page, frame);
     put_reply(Reply::Inserted(r));
     steps_of(r)
 }
 
 fn run_remove(area: &mut [u64], kind: Kind, page: u64) -> u64 {
-    let r = remove(area, kind, page);
+    let r = public::remove(area, kind, page);
     put_reply(Reply::Gone(r));
     0
 }
 
 fn run_clear(area: &mut [u64], kind: Kind) -> u64 {
-    clear(area, kind);
+    public::clear(area, kind);
     put_reply(Reply::Cleared);
     0
 }
 
 fn run_peek(area: &[u64], kind: Kind, page: u64) -> u64 {
-    let r = peek(area, kind, page);
+    let r = public::peek(area, kind, page);
     put_reply(Reply::Seen(r));
     0
 }
@@ -490,13 +434,6 @@ fn none() -> Counts {
     }
 }
 
-fn tally(area: &mut [u64], kind: Kind, trace: &[u8]) -> Tally {
-    match kind {
-        Kind::Arc => ArcCore::tally(area, trace, none()),
-        Kind::Car => CarCore::tally(area, trace, none()),
-    }
-}
-
 fn put_counts(n: Counts) {
     telling::field(b"counts ", n.gets);
     telling::field(b" ", n.get_hits);
@@ -513,7 +450,7 @@ fn put_others(evictions: u64, steps: u64, removals: u64) {
 
 // The whole trace again by the library's batch: its counts, and the digest of the state it leaves.
 fn run_batch(area: &mut [u64], kind: Kind, trace: &[u8]) {
-    let t = tally(area, kind, trace);
+    let t = batch::batch(area, kind, trace, none());
     let counts = t.counts;
     put_counts(counts);
     let digest = digest_of(area, kind, 0, false);
@@ -562,9 +499,9 @@ fn run_case(
     head: usize,
 ) {
     if head <= input.len() {
-        make(area, kind, c);
+        public::new(area, kind, c);
         run_all(area, kind, mode, &input[head..], head as u64);
-        make(other, kind, c);
+        public::new(other, kind, c);
         run_batch(other, kind, &input[head..]);
         put_list(area, kind);
     }
