@@ -12,7 +12,7 @@ pub fn count(area: &[u64], c: usize, i: usize) -> usize
     ensures { λ r. ⌜ r ≡ countOf (ghostsIn (sideOf i) c (now (area .entry))) ⌝ }
 {
     let a = super::ghosts_at(c, i);
-    let b = a + 2 * c + 5;
+    let b = a + super::GHOSTS_PER_FRAME * c + super::GHOSTS_BASE;
     ghosts::count(&area[a..b], c)
 }
 
@@ -22,7 +22,7 @@ pub fn oldest(area: &[u64], c: usize, i: usize) -> usize
     ensures { λ r. ⌜ r ≡ prevOf (linksOf (ghostsIn (sideOf i) c (now (area .entry)))) c ⌝ }
 {
     let a = super::ghosts_at(c, i);
-    let b = a + 2 * c + 5;
+    let b = a + super::GHOSTS_PER_FRAME * c + super::GHOSTS_BASE;
     ghosts::oldest(&area[a..b], c)
 }
 
@@ -32,7 +32,7 @@ pub fn record(area: &mut [u64], c: usize, i: usize) -> usize
     ensures { λ r. ⌜ Answered c (now (area .entry)) (now (area .exit)) r (recordCell c (ghostsIn (sideOf i) c (now (area .entry)))) (setGhosts (sideOf i) (recorded c (ghostsIn (sideOf i) c (now (area .entry)))) (partsOf c (now (area .entry)))) ⌝ }
 {
     let a = super::ghosts_at(c, i);
-    let b = a + 2 * c + 5;
+    let b = a + super::GHOSTS_PER_FRAME * c + super::GHOSTS_BASE;
     ghosts::record(&mut area[a..b], c)
 }
 
@@ -42,6 +42,6 @@ pub fn forget(area: &mut [u64], c: usize, i: usize, g: usize)
     ensures { λ _. ⌜ Became c (now (area .entry)) (now (area .exit)) (setGhosts (sideOf i) (forgotten c g (ghostsIn (sideOf i) c (now (area .entry)))) (partsOf c (now (area .entry)))) ⌝ }
 {
     let a = super::ghosts_at(c, i);
-    let b = a + 2 * c + 5;
+    let b = a + super::GHOSTS_PER_FRAME * c + super::GHOSTS_BASE;
     ghosts::forget(&mut area[a..b], c, g);
 }

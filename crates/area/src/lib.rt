@@ -14,6 +14,34 @@ ghost use lib.ListN.{length};
 ghost use Rattle.parts.specs.Parts.{setTarget};
 ghost use Rattle.area.specs.Area.{kindOf, capacityOf, targetOf, sideOf, Starts, partsOf, Fit, Became};
 
+// How an area of capacity c is cut: a header, then the residents, B1, B2 and the lookup. B1 starts at
+// B1_PER_FRAME * c + B1_BASE, and likewise the others; a ghost list has GHOSTS_PER_FRAME * c + GHOSTS_BASE words. In code
+// these numbers stand here alone, for contracts in specs/Area.
+pub const HEADER: usize = 43;
+
+pub const B1_PER_FRAME: usize = 5;
+
+pub const B1_BASE: usize = 52;
+
+pub const B2_PER_FRAME: usize = 7;
+
+pub const B2_BASE: usize = 57;
+
+pub const GHOSTS_PER_FRAME: usize = 2;
+
+pub const GHOSTS_BASE: usize = 5;
+
+pub const LOOKUP_PER_FRAME: usize = 9;
+
+pub const LOOKUP_BASE: usize = 62;
+
+pub const AREA_PER_FRAME: usize = 24;
+
+pub const AREA_BASE: usize = 64;
+
+// The largest capacity.
+pub const MAX_CAPACITY: usize = 1024;
+
 // The kind, the capacity and the target, as the header has them.
 pub fn kind(area: &[u64]) -> u64
     requires { ⌜ 64 ≤ length (now area) ⌝ }
@@ -50,7 +78,7 @@ pub fn ghosts_at(c: usize, i: usize) -> usize
     ensures { λ r. ⌜ Starts c (sideOf i) r ⌝ }
 {
     if i == 0 {
-        return 5 * c + 52;
+        return B1_PER_FRAME * c + B1_BASE;
     }
-    7 * c + 57
+    B2_PER_FRAME * c + B2_BASE
 }

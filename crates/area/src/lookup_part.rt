@@ -15,8 +15,8 @@ pub fn find(area: &[u64], c: usize, x: u64) -> usize
     requires { ⌜ Fit c (now area) (CanFind (lookupIn c (now area)) (placesOf c) (bucketsOf c) x) ⌝ }
     ensures { λ r. ⌜ r ≡ findOf (lookupIn c (now (area .entry))) (placesOf c) (bucketsOf c) x ⌝ }
 {
-    let a = 9 * c + 62;
-    let b = 24 * c + 64;
+    let a = super::LOOKUP_PER_FRAME * c + super::LOOKUP_BASE;
+    let b = super::AREA_PER_FRAME * c + super::AREA_BASE;
     let m = 3 * c;
     let k = lookup::buckets_of(c);
     let inverse = area[3] as usize;
@@ -28,8 +28,8 @@ pub fn place_of(area: &[u64], c: usize, x: u64) -> usize
     requires { ⌜ Fit c (now area) (CanFind (lookupIn c (now area)) (placesOf c) (bucketsOf c) x) ⌝ }
     ensures { λ r. ⌜ r ≡ placeOr (placesOf c) (look (lookupIn c (now (area .entry))) (placesOf c) (bucketsOf c) x) ⌝ }
 {
-    let a = 9 * c + 62;
-    let b = 24 * c + 64;
+    let a = super::LOOKUP_PER_FRAME * c + super::LOOKUP_BASE;
+    let b = super::AREA_PER_FRAME * c + super::AREA_BASE;
     let m = 3 * c;
     let k = lookup::buckets_of(c);
     let inverse = area[3] as usize;
@@ -41,8 +41,8 @@ pub fn page(area: &[u64], c: usize, y: usize) -> u64
     requires { ⌜ Fit c (now area) (y < 3 * c) ⌝ }
     ensures { λ r. ⌜ r ≡ pageOf (lookupIn c (now (area .entry))) y ⌝ }
 {
-    let a = 9 * c + 62;
-    let b = 24 * c + 64;
+    let a = super::LOOKUP_PER_FRAME * c + super::LOOKUP_BASE;
+    let b = super::AREA_PER_FRAME * c + super::AREA_BASE;
     lookup::page_of(&area[a..b], y)
 }
 
@@ -51,8 +51,8 @@ pub fn dead(area: &[u64], c: usize, y: usize) -> bool
     requires { ⌜ Fit c (now area) (y < 3 * c) ⌝ }
     ensures { λ r. ⌜ r ≡ eqb (prevOf (linksOf (placesOf c) (lookupIn c (now (area .entry)))) y) y ⌝ }
 {
-    let a = 9 * c + 62;
-    let b = 24 * c + 64;
+    let a = super::LOOKUP_PER_FRAME * c + super::LOOKUP_BASE;
+    let b = super::AREA_PER_FRAME * c + super::AREA_BASE;
     let m = 3 * c;
     lookup::dead(&area[a..b], m, y)
 }
@@ -62,8 +62,8 @@ pub fn put(area: &mut [u64], c: usize, f: usize, y: usize, x: u64)
     requires { ⌜ Fit c (now area) (CanPut (lookupIn c (now area)) (placesOf c) f y) ⌝ }
     ensures { λ _. ⌜ Became c (now (area .entry)) (now (area .exit)) (setLookup (putIn (placesOf c) f y x (lookupIn c (now (area .entry)))) (partsOf c (now (area .entry)))) ⌝ }
 {
-    let a = 9 * c + 62;
-    let b = 24 * c + 64;
+    let a = super::LOOKUP_PER_FRAME * c + super::LOOKUP_BASE;
+    let b = super::AREA_PER_FRAME * c + super::AREA_BASE;
     let m = 3 * c;
     lookup::put(&mut area[a..b], m, f, y, x);
 }
@@ -73,8 +73,8 @@ pub fn take(area: &mut [u64], c: usize, y: usize)
     requires { ⌜ Fit c (now area) (CanTake (lookupIn c (now area)) (placesOf c) y) ⌝ }
     ensures { λ _. ⌜ Became c (now (area .entry)) (now (area .exit)) (setLookup (taken (placesOf c) y (lookupIn c (now (area .entry)))) (partsOf c (now (area .entry)))) ⌝ }
 {
-    let a = 9 * c + 62;
-    let b = 24 * c + 64;
+    let a = super::LOOKUP_PER_FRAME * c + super::LOOKUP_BASE;
+    let b = super::AREA_PER_FRAME * c + super::AREA_BASE;
     let m = 3 * c;
     lookup::take(&mut area[a..b], m, y);
 }
@@ -84,8 +84,8 @@ pub fn rename(area: &mut [u64], c: usize, y: usize, z: usize)
     requires { ⌜ Fit c (now area) (CanRename (lookupIn c (now area)) (placesOf c) y z) ⌝ }
     ensures { λ _. ⌜ Became c (now (area .entry)) (now (area .exit)) (setLookup (renamed (placesOf c) y z (lookupIn c (now (area .entry)))) (partsOf c (now (area .entry)))) ⌝ }
 {
-    let a = 9 * c + 62;
-    let b = 24 * c + 64;
+    let a = super::LOOKUP_PER_FRAME * c + super::LOOKUP_BASE;
+    let b = super::AREA_PER_FRAME * c + super::AREA_BASE;
     let m = 3 * c;
     lookup::rename(&mut area[a..b], m, y, z);
 }

@@ -24,8 +24,8 @@ fn make_residents(area: &mut [u64], c: usize)
     requires { ⌜ Fits c (now area) ⌝ }
     ensures { λ _. ⌜ Became c (now (area .entry)) (now (area .exit)) (setResidents (madeResidents c (residentsIn c (now (area .entry)))) (partsOf c (now (area .entry)))) ⌝ }
 {
-    let b = 5 * c + 52;
-    residents::make(&mut area[43..b], c);
+    let b = area::B1_PER_FRAME * c + area::B1_BASE;
+    residents::make(&mut area[area::HEADER..b], c);
 }
 
 // No ghosts of a side.
@@ -34,7 +34,7 @@ fn make_ghosts(area: &mut [u64], c: usize, i: usize)
     ensures { λ _. ⌜ Became c (now (area .entry)) (now (area .exit)) (setGhosts (sideOf i) (madeGhosts c (ghostsIn (sideOf i) c (now (area .entry)))) (partsOf c (now (area .entry)))) ⌝ }
 {
     let a = area::ghosts_at(c, i);
-    let b = a + 2 * c + 5;
+    let b = a + area::GHOSTS_PER_FRAME * c + area::GHOSTS_BASE;
     ghosts::make(&mut area[a..b], c);
 }
 
@@ -43,8 +43,8 @@ fn make_lookup(area: &mut [u64], c: usize)
     requires { ⌜ Fits c (now area) ⌝ }
     ensures { λ _. ⌜ Became c (now (area .entry)) (now (area .exit)) (setLookup (madeLookup (placesOf c) (bucketsOf c) (lookupIn c (now (area .entry)))) (partsOf c (now (area .entry)))) ⌝ }
 {
-    let a = 9 * c + 62;
-    let b = 24 * c + 64;
+    let a = area::LOOKUP_PER_FRAME * c + area::LOOKUP_BASE;
+    let b = area::AREA_PER_FRAME * c + area::AREA_BASE;
     let m = 3 * c;
     let k = lookup::buckets_of(c);
     lookup::make(&mut area[a..b], m, k);
@@ -88,11 +88,11 @@ fn write(area: &mut [u64], kind: u64, c: usize)
 pub fn new(area: &mut [u64], kind: u64, c: u64) -> Made
     ensures { λ r. ⌜ New kind c (now (area .entry)) (now (area .exit)) r ⌝ }
 {
-    if 1024 < c {
+    if (area::MAX_CAPACITY as u64) < c {
         return Made::Refused(1);
     }
     let n = c as usize;
-    let need = 24 * n + 64;
+    let need = area::AREA_PER_FRAME * n + area::AREA_BASE;
     if area.len() < need {
         return Made::Refused(2);
     }

@@ -88,13 +88,13 @@ fn free_dead(area: &[u64], c: usize) -> bool
     requires { ⌜ Fit c (now area) (IsResidents (residentsIn c (now area)) c) ⌝ }
     ensures { λ r. ⌜ r ≡ deadsTest (lookupIn c (now (area .entry))) (placesOf c) 0 (listsOf (residentsIn c (now (area .entry))) c 2) ⌝ }
 {
-    let b = 5 * c + 52;
-    let l = 9 * c + 62;
-    let e = 24 * c + 64;
+    let b = area::B1_PER_FRAME * c + area::B1_BASE;
+    let l = area::LOOKUP_PER_FRAME * c + area::LOOKUP_BASE;
+    let e = area::AREA_PER_FRAME * c + area::AREA_BASE;
     let a = 3 + 3 * c;
     let s = c + 2;
     let n = area::resident_part::count(area, c, 2);
-    ring_dead(&area[43..b], a, &area[l..e], c, s, 0, n)
+    ring_dead(&area[area::HEADER..b], a, &area[l..e], c, s, 0, n)
 }
 
 // Whether the places of the spare cells of a ghost list are dead; `from` is the place of its first cell.
@@ -103,9 +103,9 @@ fn spare_dead(area: &[u64], c: usize, i: usize, from: usize) -> bool
     ensures { λ r. ⌜ r ≡ deadsTest (lookupIn c (now (area .entry))) (placesOf c) from (spareOf (ghostsIn (sideOf i) c (now (area .entry))) c) ⌝ }
 {
     let a = area::ghosts_at(c, i);
-    let b = a + 2 * c + 5;
-    let l = 9 * c + 62;
-    let e = 24 * c + 64;
+    let b = a + area::GHOSTS_PER_FRAME * c + area::GHOSTS_BASE;
+    let l = area::LOOKUP_PER_FRAME * c + area::LOOKUP_BASE;
+    let e = area::AREA_PER_FRAME * c + area::AREA_BASE;
     let s = c + 1;
     let n = area::ghost_parts::count(area, c, i);
     let m = c - n;
@@ -117,8 +117,8 @@ fn check_residents(area: &[u64], c: usize) -> bool
     requires { ⌜ Fits c (now area) ⌝ }
     ensures { λ r. ⌜ r ≡ residentsTest (residentsIn c (now (area .entry))) c ⌝ }
 {
-    let b = 5 * c + 52;
-    residents::check(&area[43..b], c)
+    let b = area::B1_PER_FRAME * c + area::B1_BASE;
+    residents::check(&area[area::HEADER..b], c)
 }
 
 fn check_ghosts(area: &[u64], c: usize, i: usize) -> bool
@@ -126,7 +126,7 @@ fn check_ghosts(area: &[u64], c: usize, i: usize) -> bool
     ensures { λ r. ⌜ r ≡ ghostsTest (ghostsIn (sideOf i) c (now (area .entry))) c ⌝ }
 {
     let a = area::ghosts_at(c, i);
-    let b = a + 2 * c + 5;
+    let b = a + area::GHOSTS_PER_FRAME * c + area::GHOSTS_BASE;
     ghosts::check(&area[a..b], c)
 }
 
@@ -134,8 +134,8 @@ fn check_lookup(area: &[u64], c: usize, live: usize) -> bool
     requires { ⌜ Fits c (now area) ⌝ }
     ensures { λ r. ⌜ r ≡ lookupTest (lookupIn c (now (area .entry))) (placesOf c) (bucketsOf c) live ⌝ }
 {
-    let a = 9 * c + 62;
-    let b = 24 * c + 64;
+    let a = area::LOOKUP_PER_FRAME * c + area::LOOKUP_BASE;
+    let b = area::AREA_PER_FRAME * c + area::AREA_BASE;
     let m = 3 * c;
     let k = lookup::buckets_of(c);
     lookup_check::check(&area[a..b], m, k, live)
@@ -267,10 +267,10 @@ pub fn check(area: &[u64], kind: u64) -> bool
         return false;
     }
     let c = area[1] as usize;
-    if 1024 < c {
+    if area::MAX_CAPACITY < c {
         return false;
     }
-    let need = 24 * c + 64;
+    let need = area::AREA_PER_FRAME * c + area::AREA_BASE;
     if n < need {
         return false;
     }
