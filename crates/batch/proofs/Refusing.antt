@@ -1,4 +1,4 @@
--- REFUSAL 3 OF A BATCH IS EXACT: it is given exactly when the words are no writing of a well-formed state of the policy, whatever the trace is. Assumes nothing.
+-- REFUSAL 3 OF A BATCH IS EXACT: it is given exactly when the words are a writing of no well-formed state of the policy, whatever the trace is. Assumes nothing.
 use mathlib.Core.Path.{_≡_, refl, sym, ap, _∙_}
 use mathlib.Core.Bool.{Bool, true, false, cond, false≢true}
 use mathlib.Core.List.{List}
@@ -8,9 +8,10 @@ use Rattle.rules.specs.Calls.{Answer, Finished, Stopped}
 use Rattle.rules.specs.Batch.{Batched, batch, answerOf}
 use Rattle.rules.specs.Public.{BatchDone, batched}
 use Rattle.calls.specs.Policy.{Policy}
+use Rattle.calls.specs.Writing.{Exactly}
 use Rattle.calls.proofs.Accepting.{is3}
 use Rattle.calls.proofs.Exact.{Exact}
-use Rattle.calls.proofs.Refusing.{Exactly, exactly}
+use Rattle.calls.proofs.Refusing.{exactly}
 use Rattle.batch.specs.Outcomes.{countsIs, BatchOutcome}
 use Rattle.batch.specs.declared.Counts.{Counts}
 

@@ -3,8 +3,7 @@
 use mathlib.Core.Path.{_≡_, refl, ap}
 use mathlib.Core.Bool.{true, false}
 use mathlib.Core.List.{List}
-use Prim.Native.Nat.{ℕ, _^_, _<_, _≤_}
-use lib.ListN.{getD}
+use Prim.Native.Nat.{ℕ, _≤_}
 use Rattle.rules.specs.State.{maxCapacity}
 use Rattle.rules.specs.Calls.{Call, Question, Capacity, Ask, Number, asked}
 use Rattle.rules.specs.Arc as arc
@@ -13,7 +12,7 @@ use Rattle.rules.specs.Car.{Car}
 use Rattle.rules.proofs.Closure.{arc-new, car-new}
 use Rattle.area.specs.Area.{capacityOf}
 use Rattle.area.specs.Stored.{arcOf, Writes}
-use Rattle.state_check.specs.Check.{stateTest}
+use Rattle.state_check.specs.Check.{Words, stateTest}
 use Rattle.state_check.proofs.State.{arc-sound, car-sound, arc-complete, car-complete}
 use Rattle.calls.specs.Policy.{Policy, arcPolicy, carPolicy, policyOf, stateOf}
 use Rattle.calls.specs.declared.Kind.{Kind}
@@ -22,7 +21,7 @@ use Rattle.calls.proofs.Capacity.{arc-keeps, car-keeps}
 use Rattle.calls.proofs.Accepting.{is3, arc-accepts, car-accepts}
 
 pub record Exact (P : Policy) : Type 0 where
-  pub sound : (w : List ℕ) → ((i : ℕ) → getD w i 0 < 2 ^ 64) → stateTest (P .kind) w ≡ true → P .WellFormed (stateOf P (capacityOf w) w)
+  pub sound : (w : List ℕ) → Words w → stateTest (P .kind) w ≡ true → P .WellFormed (stateOf P (capacityOf w) w)
   pub complete : (w : List ℕ) (s : Car) → Writes (P .kind) w s → P .WellFormed (P .view s) → stateTest (P .kind) w ≡ true
   pub new-is : (c : ℕ) → P .view (car.new c) ≡ P .new c
   pub new-well : (c : ℕ) → c ≤ maxCapacity → P .WellFormed (P .new c)

@@ -6,4 +6,5 @@ pub mod Reading
 pub mod Equal
 pub mod Passing
 pub mod Outcomes
+pub mod ByRules
 pub mod Refusing

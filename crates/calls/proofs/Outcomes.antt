@@ -1,4 +1,4 @@
--- What a contract says of an area that reads as a state. In order: what words read as; a call; a question, which leaves the area; `new`.
+-- What a contract says of an area that reads as a state. In order: a call; a question, which leaves the area; `new`.
 -- Assumes nothing.
 use mathlib.Core.Path.{_≡_, refl, ap, _∙_}
 use mathlib.Core.Bool.{Bool, true, false, cond}
@@ -6,28 +6,16 @@ use mathlib.Core.List.{List}
 use mathlib.Core.Logic.{_⊎_, inl, inr}
 use mathlib.Core.Option.{Option, some, none}
 use Prim.Native.Nat.{ℕ}
-use native.Mathlib.Omega.{arith}
 use lib.Dec.{ltb}
 use lib.ListN.{length}
 use Rattle.rules.specs.Calls.{Call, Question, Ask, Answer, Made, Refused, done}
 use Rattle.rules.specs.State.{maxCapacity}
 use Rattle.rules.specs.Public.{wordsNeeded, made, called}
-use Rattle.area.specs.Area.{capacityOf}
-use Rattle.state_check.specs.Check.{stateTest}
-use Rattle.calls.specs.Policy.{Policy, stateOf, reads}
+use Rattle.calls.specs.Policy.{Policy, reads}
 use Rattle.calls.specs.Outer.{Outcome, Told, Making}
 use Rattle.calls.proofs.Exact.{Exact}
 
 module _ (P : Policy) where
-  -- words that read as s have passed the test, and s is what they hold
-  pub reads-is : (w : List ℕ) (s : P .State) → reads P w ≡ some s → (stateTest (P .kind) w ≡ true) × (stateOf P (capacityOf w) w ≡ s)
-  unfolding reads
-  reads-is w s = by (stateTest (P .kind) w) refl
-    where
-      by : (t : Bool) → stateTest (P .kind) w ≡ t → cond t (some (stateOf P (capacityOf w) w)) none ≡ some s → (stateTest (P .kind) w ≡ true) × (stateOf P (capacityOf w) w ≡ s)
-      by true q e = (q, cc)
-      by false q e = absurd (let z : _≡_ {A = ℕ} 0 1 = cc in let x : ⊥ = omega arith in x)
-
   -- A CALL ON A STATE answers and leaves what the rules say
   pub outcome-is : (k : Call) (w v : List ℕ) (a : Answer) (s : P .State) → Outcome P k w v a → reads P w ≡ some s → (a ≡ P .does k s .answer) × (reads P v ≡ some (P .does k s .state))
   unfolding called

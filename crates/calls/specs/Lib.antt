@@ -2,3 +2,4 @@
 pub mod Policy
 pub mod Inner
 pub mod Outer
+pub mod Writing

@@ -1,4 +1,4 @@
--- REFUSAL 3 OF A LISTING IS EXACT: it is given exactly when the words are no writing of a well-formed state of the policy, however many records are lent. Assumes nothing.
+-- REFUSAL 3 OF A LISTING IS EXACT: it is given exactly when the words are a writing of no well-formed state of the policy, however many records are lent. Assumes nothing.
 use mathlib.Core.Path.{sym, ap, _∙_}
 use mathlib.Core.Bool.{false≢true}
 use mathlib.Core.List.{List}
@@ -7,9 +7,10 @@ use lib.ListN.{length}
 use Rattle.rules.specs.Calls.{Ask, Listing}
 use Rattle.rules.specs.Public.{ListingDone, listed}
 use Rattle.calls.specs.Policy.{Policy}
+use Rattle.calls.specs.Writing.{Exactly}
 use Rattle.calls.proofs.Accepting.{is3}
 use Rattle.calls.proofs.Exact.{Exact}
-use Rattle.calls.proofs.Refusing.{Exactly, exactly}
+use Rattle.calls.proofs.Refusing.{exactly}
 use Rattle.listing.specs.Outcome.{recordsAre, listedIs, ListingOutcome}
 use Rattle.listing.specs.declared.Record.{Record}
 use Rattle.listing.specs.declared.Listed.{Listed}

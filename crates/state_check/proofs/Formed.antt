@@ -19,7 +19,7 @@ use Rattle.parts.proofs.Reading.{state-obeys}
 use Rattle.area.specs.Part.{part}
 use Rattle.area.specs.Area.{lookupIn, partsOf}
 use Rattle.area.specs.Stored.{plainly, arcOf}
-use Rattle.state_check.specs.Check.{rowCount, liveCount}
+use Rattle.state_check.specs.Check.{Words, rowCount, liveCount}
 
 -- ---- words below a bound: those of a part are
 below-take : (b n : ℕ) (l : List ℕ) → 0 < b → ((i : ℕ) → getD l i 0 < b) → (i : ℕ) → getD (take n l) i 0 < b
@@ -28,7 +28,7 @@ below-take b (suc n) [] z h i = z
 below-take b (suc n) (x ∷ l) z h zero = h 0
 below-take b (suc n) (x ∷ l) z h (suc i) = below-take b n l z (λ j. h (suc j)) i
 
-pub pages-below : (c : ℕ) (w : List ℕ) → ((i : ℕ) → getD w i 0 < 2 ^ 64) → (x : ℕ) → pageOf (partsOf c w .lookup) x < 2 ^ 64
+pub pages-below : (c : ℕ) (w : List ℕ) → Words w → (x : ℕ) → pageOf (partsOf c w .lookup) x < 2 ^ 64
 unfolding partsOf lookupIn part
 pages-below c w h x = below-take (2 ^ 64) (24 * c + 64 - (9 * c + 62)) (drop (9 * c + 62) w) (omega arith) (λ i. rw (getD-drop (9 * c + 62) w i 0) (h (9 * c + 62 + i))) x
 

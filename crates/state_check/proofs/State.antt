@@ -1,9 +1,8 @@
--- THE STATE CHECK IS EXACT: it passes where the words are a writing of a well-formed state of that kind, and only there. A reading is unique, and the kinds
--- are never confused. Assumes nothing.
+-- THE STATE CHECK IS EXACT: it passes where the words are a writing of a well-formed state of that kind, and only there. Words are a writing of one
+-- state at most, and the kinds are never confused. Over the policy, of what any words read as: crate `calls`, proofs/Reading. Assumes nothing.
 use mathlib.Core.Path.{_≡_, refl, sym, ap, _∙_}
 use mathlib.Core.Bool.{Bool, true, false, cond, false≢true}
 use mathlib.Core.List.{List}
-use mathlib.Core.Option.{some, none}
 use Prim.Native.Nat.{ℕ, _+_, _*_, _^_, _<_, _≤_}
 use native.Mathlib.Omega.{arith}
 use lib.ListN.{length, getD}
@@ -15,8 +14,7 @@ use Rattle.rules.specs.Car.{Car}
 use Rattle.parts.specs.Parts.{Parts, Holds, stateOf}
 use Rattle.area.specs.Area.{kindOf, capacityOf, targetOf, endAt, partsOf}
 use Rattle.area.specs.Stored.{stateIn, arcOf, Writes}
-use Rattle.state_check.specs.Check.{rowCount, liveCount, listsTest, deadTest, sumsTest, partsTest, stateTest}
-use Rattle.state_check.specs.Reading.{FormedBy, Formed, reading}
+use Rattle.state_check.specs.Check.{Words, rowCount, liveCount, listsTest, deadTest, sumsTest, partsTest, stateTest}
 use Rattle.area.proofs.Rooms.{have-room}
 use Rattle.state_check.proofs.Lists.{both}
 use Rattle.state_check.proofs.Exact.{parts-sound, lists-pass, held-pass, dead-pass}
@@ -32,12 +30,22 @@ target-is : (c : ℕ) (w : List ℕ) → partsOf c w .target ≡ targetOf w
 unfolding partsOf
 target-is c w = refl
 
--- ---- the sums
-sums-sound : (kind c : ℕ) (p : Parts) → kind ≡ 1 → sumsTest kind c p ≡ true → (rowCount p ≤ c + 1) × (liveCount p ≤ 2 * c + 1)
+-- ---- what ARC asks of the sums besides; of CAR's nothing is asked
+sums-sound : (c : ℕ) (p : Parts) → sumsTest 1 c p ≡ true → (rowCount p ≤ c + 1) × (liveCount p ≤ 2 * c + 1)
 unfolding sumsTest
-sums-sound kind c p k q =
-    let a = neither (ltb (c + 1) (rowCount p)) _ (rw (eq-eqb kind 1 k) at q) in
+sums-sound c p q =
+    let a = neither (ltb (c + 1) (rowCount p)) _ q in
     (ltb-false (c + 1) (rowCount p) (a .0), leb-true (liveCount p) (2 * c + 1) (a .1))
+
+arc-sums-pass : (c : ℕ) (p : Parts) → Holds c p → arc.WellFormed (arcOf (stateOf c p)) → sumsTest 1 c p ≡ true
+unfolding sumsTest
+arc-sums-pass c p h f =
+    let s = arc-sums c p h f in
+    rw (le-ltb (c + 1) (rowCount p) (s .0)) (le-leb (liveCount p) (2 * c + 1) (s .1))
+
+car-sums-pass : (c : ℕ) (p : Parts) → sumsTest 2 c p ≡ true
+unfolding sumsTest
+car-sums-pass c p = refl
 
 -- ---- what a test that has passed says
 record Passed (kind : ℕ) (w : List ℕ) : Type 0 where
@@ -66,62 +74,46 @@ passed kind w q =
     }
 
 -- ---- SOUND
-module _ (kind : ℕ) (w : List ℕ) (q : stateTest kind w ≡ true) where
-  pub state-writes : Writes kind w (stateIn (capacityOf w) w)
-  unfolding stateIn stateOf
-  state-writes =
-      let t = passed kind w q in
-      record { kind = t .kind-is; stored = record { size = t .size; capacity = refl; holds = t .holds }; reads = refl }
+pub state-writes : (kind : ℕ) (w : List ℕ) → stateTest kind w ≡ true → Writes kind w (stateIn (capacityOf w) w)
+unfolding stateIn stateOf
+state-writes kind w q =
+    let t = passed kind w q in
+    record { kind = t .kind-is; stored = record { size = t .size; capacity = refl; holds = t .holds }; reads = refl }
 
-  pub state-formed : ((i : ℕ) → getD w i 0 < 2 ^ 64) → Formed kind (stateIn (capacityOf w) w)
-  unfolding stateIn
-  state-formed words = go (eqb kind 1) refl
-    where
-      go : (t : Bool) → eqb kind 1 ≡ t → FormedBy t (stateIn (capacityOf w) w)
-      go true e =
-          let t = passed kind w q in
-          let s = sums-sound kind (capacityOf w) (partsOf (capacityOf w) w) (eqb-true kind 1 e) (t .sums) in
-          arc-formed (capacityOf w) (partsOf (capacityOf w) w) (t .holds) (pages-below (capacityOf w) w words) (s .0) (s .1)
-      go false e = car-formed (capacityOf w) (partsOf (capacityOf w) w) (passed kind w q .holds) (pages-below (capacityOf w) w words)
+pub arc-sound : (w : List ℕ) → Words w → stateTest 1 w ≡ true → Writes 1 w (stateIn (capacityOf w) w) × arc.WellFormed (arcOf (stateIn (capacityOf w) w))
+unfolding stateIn
+arc-sound w words q =
+    let t = passed 1 w q in
+    let s = sums-sound (capacityOf w) (partsOf (capacityOf w) w) (t .sums) in
+    (state-writes 1 w q, arc-formed (capacityOf w) (partsOf (capacityOf w) w) (t .holds) (pages-below (capacityOf w) w words) (s .0) (s .1))
 
--- by kind
-pub arc-sound : (w : List ℕ) → ((i : ℕ) → getD w i 0 < 2 ^ 64) → stateTest 1 w ≡ true → Writes 1 w (stateIn (capacityOf w) w) × arc.WellFormed (arcOf (stateIn (capacityOf w) w))
-arc-sound w words q = (state-writes 1 w q, state-formed 1 w q words)
+pub car-sound : (w : List ℕ) → Words w → stateTest 2 w ≡ true → Writes 2 w (stateIn (capacityOf w) w) × car.WellFormed (stateIn (capacityOf w) w)
+unfolding stateIn
+car-sound w words q = (state-writes 2 w q, car-formed (capacityOf w) (partsOf (capacityOf w) w) (passed 2 w q .holds) (pages-below (capacityOf w) w words))
 
-pub car-sound : (w : List ℕ) → ((i : ℕ) → getD w i 0 < 2 ^ 64) → stateTest 2 w ≡ true → Writes 2 w (stateIn (capacityOf w) w) × car.WellFormed (stateIn (capacityOf w) w)
-car-sound w words q = (state-writes 2 w q, state-formed 2 w q words)
-
--- ---- COMPLETE
-sums-complete : (kind c : ℕ) (p : Parts) → Holds c p → Formed kind (stateOf c p) → sumsTest kind c p ≡ true
-unfolding sumsTest
-sums-complete kind c p h = go (eqb kind 1)
-  where
-    go : (t : Bool) → FormedBy t (stateOf c p) → cond t (cond (ltb (c + 1) (rowCount p)) false (leb (liveCount p) (2 * c + 1))) true ≡ true
-    go true f = let s = arc-sums c p h f in rw (le-ltb (c + 1) (rowCount p) (s .0)) (le-leb (liveCount p) (2 * c + 1) (s .1))
-    go false f = refl
-
-parts-complete : (kind c : ℕ) (p : Parts) → Holds c p → Formed kind (stateOf c p) → partsTest kind c p ≡ true
+-- ---- COMPLETE: nothing is asked of the words' size
+parts-complete : (kind c : ℕ) (p : Parts) → Holds c p → sumsTest kind c p ≡ true → partsTest kind c p ≡ true
 unfolding partsTest
-parts-complete kind c p h f = rw (lists-pass c p h, dead-pass c p h, sums-complete kind c p h f) (held-pass c p h)
+parts-complete kind c p h sums = rw (lists-pass c p h, dead-pass c p h, sums) (held-pass c p h)
 
 header-complete : (kind c : ℕ) (w : List ℕ) → capacityOf w ≡ c → kindOf w ≡ kind → c ≤ 1024 → endAt c ≤ length w → targetOf w ≤ c → partsTest kind c (partsOf c w) ≡ true → stateTest kind w ≡ true
 unfolding stateTest
 header-complete kind c w q k small size aim parts = rw (le-ltb (length w) 64 (omega arith), eq-eqb (kindOf w) kind k, q, le-ltb 1024 c small, le-ltb (length w) (24 * c + 64) size, le-ltb c (targetOf w) aim) parts
 
-pub state-complete : (kind : ℕ) (w : List ℕ) (s : Car) → Writes kind w s → Formed kind s → stateTest kind w ≡ true
-unfolding stateIn
-state-complete kind w s r f =
+state-complete : (kind : ℕ) (w : List ℕ) (s : Car) → Writes kind w s → sumsTest kind (s .lists .c) (partsOf (s .lists .c) w) ≡ true → stateTest kind w ≡ true
+state-complete kind w s r sums =
     let h : Holds (s .lists .c) (partsOf (s .lists .c) w) = r .stored .holds in
-    header-complete kind (s .lists .c) w (r .stored .capacity) (r .kind) (h .small) (r .stored .size) (rw (target-is (s .lists .c) w) at (h .target)) (parts-complete kind (s .lists .c) (partsOf (s .lists .c) w) h (rw (r .reads) f))
+    header-complete kind (s .lists .c) w (r .stored .capacity) (r .kind) (h .small) (r .stored .size) (rw (target-is (s .lists .c) w) at (h .target)) (parts-complete kind (s .lists .c) (partsOf (s .lists .c) w) h sums)
 
--- by kind
 pub arc-complete : (w : List ℕ) (s : Car) → Writes 1 w s → arc.WellFormed (arcOf s) → stateTest 1 w ≡ true
-arc-complete w s r f = state-complete 1 w s r f
+unfolding stateIn
+arc-complete w s r f = state-complete 1 w s r (arc-sums-pass (s .lists .c) (partsOf (s .lists .c) w) (r .stored .holds) (rw (r .reads) f))
 
+-- of CAR nothing but the writing is asked: what words write obeys its rules
 pub car-complete : (w : List ℕ) (s : Car) → Writes 2 w s → car.WellFormed s → stateTest 2 w ≡ true
-car-complete w s r f = state-complete 2 w s r f
+car-complete w s r f = state-complete 2 w s r (car-sums-pass (s .lists .c) (partsOf (s .lists .c) w))
 
--- ---- A READING IS UNIQUE: the words fix the capacity, and they and the capacity the state
+-- ---- WORDS ARE A WRITING OF ONE STATE AT MOST: they fix the capacity, and with it the state
 pub writes-read : (kind : ℕ) (w : List ℕ) (s : Car) → Writes kind w s → stateIn (capacityOf w) w ≡ s
 writes-read kind w s r = ap (λ (c : ℕ). stateIn c w) (r .stored .capacity) ∙ r .reads
 
@@ -131,20 +123,3 @@ unique kind w s t a b = sym (writes-read kind w s a) ∙ writes-read kind w t b
 -- ---- THE KINDS ARE NEVER CONFUSED
 pub kinds-apart : (w : List ℕ) (s t : Car) → Writes 1 w s → Writes 2 w t → ⊥
 kinds-apart w s t a b = let q : _≡_ {A = ℕ} 1 2 = sym (a .kind) ∙ b .kind in let z : ⊥ = omega arith in z
-
--- ---- THE READING gives a state exactly where the words are a writing of it and it is well formed
-pub reading-sound : (kind : ℕ) (w : List ℕ) (s : Car) → ((i : ℕ) → getD w i 0 < 2 ^ 64) → reading kind w ≡ some s → Writes kind w s × Formed kind s
-unfolding reading
-reading-sound kind w s words = go (stateTest kind w) refl
-  where
-    go : (t : Bool) → stateTest kind w ≡ t → cond t (some (stateIn (capacityOf w) w)) none ≡ some s → Writes kind w s × Formed kind s
-    go true q e = let z : stateIn (capacityOf w) w ≡ s = cc in (rw (sym z) (state-writes kind w q), rw (sym z) (state-formed kind w q words))
-    go false q e = absurd (let z : _≡_ {A = ℕ} 0 1 = cc in let n : ⊥ = omega arith in n)
-
-pub reading-complete : (kind : ℕ) (w : List ℕ) (s : Car) → Writes kind w s → Formed kind s → reading kind w ≡ some s
-unfolding reading
-reading-complete kind w s r f = rw (state-complete kind w s r f) (ap some (writes-read kind w s r))
-
--- and nothing exactly where they are a writing of none
-pub reading-none : (kind : ℕ) (w : List ℕ) → reading kind w ≡ none → (s : Car) → Writes kind w s → Formed kind s → ⊥
-reading-none kind w q s r f = let e : reading kind w ≡ some s = reading-complete kind w s r f in let z : _≡_ {A = ℕ} 0 1 = cc in let n : ⊥ = omega arith in n

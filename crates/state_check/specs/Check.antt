@@ -2,9 +2,9 @@
 use mathlib.Core.Path.{_≡_}
 use mathlib.Core.Bool.{Bool, true, false, cond}
 use mathlib.Core.List.{List, [], _∷_}
-use Prim.Native.Nat.{ℕ, _+_, _*_, _<_, _≤_}
+use Prim.Native.Nat.{ℕ, _+_, _*_, _^_, _<_, _≤_}
 use lib.Dec.{eqb, ltb, leb}
-use lib.ListN.{length}
+use lib.ListN.{length, getD}
 use Rattle.cells.specs.Cells.{In, prevOf}
 use Rattle.rings.specs.Rings.{Ring, membersOf}
 use Rattle.tails.specs.Tails.{tailOf}
@@ -17,6 +17,10 @@ use Rattle.lookup.specs.Part.{linksOf, Room}
 use Rattle.lookup_check.specs.Check.{lookupTest}
 use Rattle.parts.specs.Parts.{Parts}
 use Rattle.area.specs.Area.{kindOf, capacityOf, targetOf, endAt, ghostsIn, sideOf, partsOf}
+
+-- words of 64 bits, as every slice of u64 has them
+abbrev pub Words : List ℕ → Type 0
+Words w = (i : ℕ) → getD w i 0 < 2 ^ 64
 
 -- ---- the lists: the residents, and both ghost lists
 unfoldable pub listsTest : ℕ → Parts → Bool

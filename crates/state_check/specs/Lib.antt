@@ -1,3 +1,2 @@
--- The definitions that the contract of `state_check` cites, and the state that words are read as. Assumes nothing.
+-- The definitions that the contract of `state_check` cites. Assumes nothing.
 pub mod Check
-pub mod Reading

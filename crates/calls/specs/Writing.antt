@@ -1,0 +1,80 @@
+-- WORDS AND STATES: when words are a writing of a well-formed state, and what 01 says of a call on them. Assumes nothing.
+--
+-- The names between a state and the words that an inner call may take, each with what it adds to the one before:
+--
+--   Sound        rules/specs/State      of the four lists of a state, either policy: "all pages, resident and ghost, are distinct; residents <= c;
+--                                       each ghost list <= c; 0 <= target <= c"
+--   Obeys        rules/specs/Arc, Car   Sound, and the policy's own rule: ARC's two sums of lengths, CAR's slots
+--   WellFormed   rules/specs/Arc, Car   Obeys, and Ranged (rules/specs/State): pages are u64, frames u32, c at most 1,024. 01's "well formed", of a state
+--   Holds        parts/specs/Parts      of words, cut into parts: the rings, the ghost lists and the lookup are as they have to be, and the lookup
+--                                       holds exactly the places of the lists
+--   Stored       area/specs/Stored      Holds, of the parts that an area is cut into; its header has the capacity c, and it has the words for it
+--   Writes       area/specs/Stored      Stored; the header has the kind, and the words read as the state s
+--   WritingOf    here                   Writes, as the policy sees s, and WellFormed: the words are a writing of a well-formed state
+--   Good         Inner                  the same of an area whose capacity is known: what an inner call asks
+--
+-- and what links them:
+--
+--   every call keeps Obeys, and WellFormed where its page is a u64 and its frame a u32     rules/proofs/ClosureArc, ClosureCar, Closure
+--   what parts that Hold read as obeys CAR's rules, and ARC's but for the sums             parts/proofs/Reading#state-obeys
+--   the state test passes exactly where the words write a well-formed state                state_check/proofs/State#arc-sound, arc-complete, ..
+--   words write one state at most, and never one of each kind                              state_check/proofs/State#unique, kinds-apart
+--   `reads` gives a state exactly where the words are a WritingOf it, and else nothing      calls/proofs/Reading#reads-sound, reads-complete, ..
+--   Good and WritingOf say the same of one area                                            calls/proofs/Reading#good-writing, writing-good
+--
+-- So "not well formed for that policy", for which 01 gives refusal 3, is NoWriting. `reads` (Policy), by which the contracts of the public calls speak, is the check's own
+-- test; the theorems of calls/proofs/ByRules say the same contracts without it.
+use mathlib.Core.Path.{_≡_}
+use mathlib.Core.List.{List}
+use Prim.Native.Nat.{ℕ, _+_, _*_, _<_, _≤_}
+use lib.ListN.{length, drop}
+use Rattle.rules.specs.Calls.{Call, Answer, Made, Refused}
+use Rattle.rules.specs.Car.{Car}
+use Rattle.rules.specs.Public.{wordsNeeded}
+use Rattle.area.specs.Area.{capacityOf}
+use Rattle.area.specs.Stored.{Writes}
+use Rattle.state_check.specs.Check.{Words}
+use Rattle.calls.specs.Policy.{Policy}
+
+module _ (P : Policy) where
+  -- the words w are a writing of the policy's state t, and t is well formed
+  pub record WritingOf (w : List ℕ) (t : P .State) : Type 0 where
+    pub state : Car
+    pub writes : Writes (P .kind) w state
+    pub view : P .view state ≡ t
+    pub well : P .WellFormed t
+
+  -- they are a writing of no well-formed state
+  abbrev pub NoWriting : List ℕ → Type 0
+  NoWriting w = (t : P .State) → WritingOf w t → ⊥
+
+  -- "3 STATE": the answer a on the words w is refusal 3 exactly when they are a writing of no well-formed state
+  pub record Exactly (w : List ℕ) (a : Answer) : Type 0 where
+    pub only : a ≡ Refused 3 → NoWriting w
+    pub always : Words w → NoWriting w → a ≡ Refused 3
+
+  -- WHAT 01 SAYS OF A CALL, any but `new`: on the words w it gives x (its answer, and with it the counts or the records that it was lent) and leaves the words v. On a state t the rules give
+  -- `gives t` and leave `after t`; `kept` is a refusal 3, with what was lent as it was.
+  pub record ByRules {X : Type 0} (gives : P .State → X) (after : P .State → P .State) (kept : X) (w v : List ℕ) (x : X) : Type 0 where
+    -- on a writing of a well-formed state: what the rules give, and a writing of the rules' state, which is well formed again
+    pub given : (t : P .State) → WritingOf w t → x ≡ gives t
+    pub left : (t : P .State) → WritingOf w t → WritingOf v (after t)
+    -- "any other call on an area not well formed for that policy .. all unchanged"
+    pub refused : NoWriting w → x ≡ kept
+    pub unchanged : NoWriting w → v ≡ w
+    -- "Words past those are never written"
+    pub size : length v ≡ length w
+    pub rest : drop (wordsNeeded (capacityOf w)) v ≡ drop (wordsNeeded (capacityOf w)) w
+
+  -- a call k, which answers a; a question is one that leaves w
+  abbrev pub CallByRules : Call → List ℕ → List ℕ → Answer → Type 0
+  CallByRules k w v a = ByRules (λ t. P .does k t .answer) (λ t. P .does k t .state) (Refused 3) w v a
+
+  -- WHAT 01 SAYS OF `NEW`: "1 CAPACITY: `new` with c > 1,024", "2 AREA: `new` with fewer than 24c + 64 words", 1 before 2, "area unchanged"; and else an empty cache is made
+  pub record NewExactly (c : ℕ) (w v : List ℕ) (a : Answer) : Type 0 where
+    pub too-large : 1024 < c → a ≡ Refused 1
+    pub too-short : c ≤ 1024 → length w < 24 * c + 64 → a ≡ Refused 2
+    pub makes : c ≤ 1024 → 24 * c + 64 ≤ length w → (a ≡ Made) × WritingOf v (P .new c)
+    pub unchanged : (a ≡ Made → ⊥) → v ≡ w
+    pub size : length v ≡ length w
+    pub rest : drop (wordsNeeded c) v ≡ drop (wordsNeeded c) w
