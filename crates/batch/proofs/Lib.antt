@@ -2,5 +2,6 @@
 pub mod Counting
 pub mod Paying
 pub mod Refusing
+pub mod ByRules
 pub mod Turning
 pub mod Passing

@@ -1,2 +1,3 @@
 -- The contracts of a batch. Assumes nothing.
 pub mod Outcomes
+pub mod Writing

@@ -4,5 +4,6 @@ pub mod Joined
 pub mod Slots
 pub mod Records
 pub mod Refusing
+pub mod ByRules
 pub mod Laws
 pub mod Finish

@@ -2,3 +2,4 @@
 pub mod Order
 pub mod Steps
 pub mod Outcome
+pub mod Writing
