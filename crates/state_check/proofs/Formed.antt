@@ -1,21 +1,20 @@
--- The state that parts read as is well formed. In order: words of a part; the ranges; ARC's view of a state; the lengths of its lists by their counts. Assumes nothing.
+-- The state that parts read as is well formed by ARC's rules. (By CAR's: parts/proofs/Ranging.) In order: words of a
+-- part; ARC's view of a state; the lengths of its lists by their counts. Assumes nothing.
 use mathlib.Core.Path.{_≡_, refl, ap}
-use mathlib.Core.Logic.{inl, inr}
 use mathlib.Core.List.{List, [], _∷_, map}
 use Prim.Native.Nat.{ℕ, zero, suc, _+_, _-_, _*_, _^_, _<_, _≤_}
 use native.Mathlib.Omega.{arith}
 use lib.ListN.{length, getD, take, drop, length-map}
 use lib.Seq.{getD-drop}
 use Rattle.rules.specs.Lists.{Each}
-use Rattle.rules.specs.State.{first, second, pages, Sound, Ranged, Fits, IsPage}
+use Rattle.rules.specs.State.{first, second, pages, Sound, Ranged, Fits}
 use Rattle.rules.specs.Arc as arc
-use Rattle.rules.specs.Car as car
 use Rattle.rules.specs.Car.{Car, Resident}
-use Rattle.rings.specs.Members.{Mem}
 use Rattle.lookup.specs.Part.{pageOf}
-use Rattle.parts.specs.Parts.{Parts, ghostPlace, Holds, residentOf, ghostOf, stateOf}
+use Rattle.parts.specs.Parts.{Parts, Holds, residentOf, ghostOf, stateOf}
 use Rattle.parts.proofs.HoldsAs.{slotsOf, liveIn}
 use Rattle.parts.proofs.Reading.{state-obeys}
+use Rattle.parts.proofs.Ranging.{state-ranged}
 use Rattle.area.specs.Part.{part}
 use Rattle.area.specs.Area.{lookupIn, partsOf}
 use Rattle.area.specs.Stored.{plainly, arcOf}
@@ -31,31 +30,6 @@ below-take b (suc n) (x ∷ l) z h (suc i) = below-take b n l z (λ j. h (suc j)
 pub pages-below : (c : ℕ) (w : List ℕ) → Words w → (x : ℕ) → pageOf (partsOf c w .lookup) x < 2 ^ 64
 unfolding partsOf lookupIn part
 pages-below c w h x = below-take (2 ^ 64) (24 * c + 64 - (9 * c + 62)) (drop (9 * c + 62) w) (omega arith) (λ i. rw (getD-drop (9 * c + 62) w i 0) (h (9 * c + 62 + i))) x
-
--- ---- the ranges
-each-map : {A : Type 0} (P : A → Type 0) (f : ℕ → A) (xs : List ℕ) → ((x : ℕ) → Mem x xs → P (f x)) → Each P (map f xs)
-each-map P f [] h = tt
-each-map P f (x ∷ xs) h = (h x (inl refl), each-map P f xs (λ y k. h y (inr k)))
-
-module _ (c : ℕ) (p : Parts) (h : Holds c p) (words : (x : ℕ) → pageOf (p .lookup) x < 2 ^ 64) where
-  fits : (i : ℕ) → i < 2 → (x : ℕ) → Mem x (slotsOf c p i) → Fits (residentOf c p x)
-  unfolding residentOf
-  fits i l x k = (words x, h .residents .slots i x l k .frame)
-
-  pub ranged : Ranged (stateOf c p .lists)
-  unfolding stateOf ghostOf
-  ranged =
-      record {
-        capacity = h .small;
-        recent = each-map Fits (residentOf c p) (slotsOf c p 0) (fits 0 (omega arith));
-        frequent = each-map Fits (residentOf c p) (slotsOf c p 1) (fits 1 (omega arith));
-        ghosts1 = each-map IsPage (ghostOf first c p) (liveIn c p first) (λ x k. words (ghostPlace first c x));
-        ghosts2 = each-map IsPage (ghostOf second c p) (liveIn c p second) (λ x k. words (ghostPlace second c x));
-      }
-
-  -- BY CAR'S RULES
-  pub car-formed : car.WellFormed (stateOf c p)
-  car-formed = record { obeys = state-obeys c p h; ranged = ranged }
 
 -- ---- ARC's view
 pages-plain : (l : List Resident) → pages (map plainly l) ≡ pages l
@@ -118,7 +92,7 @@ module _ (c : ℕ) (p : Parts) (h : Holds c p) where
   arc-formed words a b =
       record {
         obeys = record { sound = plain-sound (stateOf c p) (state-obeys c p h .sound); rows = rw row-length at a; all = rw live-length at b };
-        ranged = plain-ranged (stateOf c p) (ranged c p h words);
+        ranged = plain-ranged (stateOf c p) (state-ranged c p h (λ x _. words x));
       }
 
   pub arc-sums : arc.WellFormed (arcOf (stateOf c p)) → (rowCount p ≤ c + 1) × (liveCount p ≤ 2 * c + 1)

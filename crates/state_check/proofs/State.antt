@@ -1,24 +1,26 @@
--- THE STATE CHECK IS EXACT: it passes where the words are a writing of a well-formed state of that kind, and only there. Words are a writing of one
--- state at most, and the kinds are never confused. Over the policy, of what any words read as: crate `calls`, proofs/Reading. Assumes nothing.
+-- THE STATE CHECK IS EXACT: it passes where the words are a writing of a well-formed state of that kind, and only there.
+-- Words are a writing of one state at most, and the kinds are never confused. Over the policy, of what any words read as:
+-- crate `calls`, proofs/Reading. Assumes nothing.
 use mathlib.Core.Path.{_≡_, refl, sym, ap, _∙_}
 use mathlib.Core.Bool.{Bool, true, false, cond, false≢true}
 use mathlib.Core.List.{List}
-use Prim.Native.Nat.{ℕ, _+_, _*_, _^_, _<_, _≤_}
+use Prim.Native.Nat.{ℕ, _+_, _*_, _≤_}
 use native.Mathlib.Omega.{arith}
-use lib.ListN.{length, getD}
-use lib.Dec.{eqb, ltb, leb}
+use lib.ListN.{length}
+use lib.Dec.{eqb, ltb}
 use borrow.Author.Tests.{eqb-true, ltb-false, leb-true, eq-eqb, le-ltb, le-leb}
 use Rattle.rules.specs.Arc as arc
 use Rattle.rules.specs.Car as car
 use Rattle.rules.specs.Car.{Car}
 use Rattle.parts.specs.Parts.{Parts, Holds, stateOf}
+use Rattle.parts.proofs.Ranging.{state-well-formed}
 use Rattle.area.specs.Area.{kindOf, capacityOf, targetOf, endAt, partsOf}
 use Rattle.area.specs.Stored.{stateIn, arcOf, Writes}
 use Rattle.state_check.specs.Check.{Words, rowCount, liveCount, listsTest, deadTest, sumsTest, partsTest, stateTest}
 use Rattle.area.proofs.Rooms.{have-room}
 use Rattle.state_check.proofs.Lists.{both}
 use Rattle.state_check.proofs.Exact.{parts-sound, lists-pass, held-pass, dead-pass}
-use Rattle.state_check.proofs.Formed.{pages-below, car-formed, arc-formed, arc-sums}
+use Rattle.state_check.proofs.Formed.{pages-below, arc-formed, arc-sums}
 
 -- not the first of two tests, but the second
 neither : (t u : Bool) → cond t false u ≡ true → (t ≡ false) × (u ≡ true)
@@ -80,16 +82,25 @@ state-writes kind w q =
     let t = passed kind w q in
     record { kind = t .kind-is; stored = record { size = t .size; capacity = refl; holds = t .holds }; reads = refl }
 
-pub arc-sound : (w : List ℕ) → Words w → stateTest 1 w ≡ true → Writes 1 w (stateIn (capacityOf w) w) × arc.WellFormed (arcOf (stateIn (capacityOf w) w))
+pub arc-sound : (w : List ℕ)
+    → Words w
+    → stateTest 1 w ≡ true
+    → Writes 1 w (stateIn (capacityOf w) w) × arc.WellFormed (arcOf (stateIn (capacityOf w) w))
 unfolding stateIn
 arc-sound w words q =
+    let c = capacityOf w in
     let t = passed 1 w q in
-    let s = sums-sound (capacityOf w) (partsOf (capacityOf w) w) (t .sums) in
-    (state-writes 1 w q, arc-formed (capacityOf w) (partsOf (capacityOf w) w) (t .holds) (pages-below (capacityOf w) w words) (s .0) (s .1))
+    let s = sums-sound c (partsOf c w) (t .sums) in
+    (state-writes 1 w q, arc-formed c (partsOf c w) (t .holds) (pages-below c w words) (s .0) (s .1))
 
-pub car-sound : (w : List ℕ) → Words w → stateTest 2 w ≡ true → Writes 2 w (stateIn (capacityOf w) w) × car.WellFormed (stateIn (capacityOf w) w)
+pub car-sound : (w : List ℕ)
+    → Words w
+    → stateTest 2 w ≡ true
+    → Writes 2 w (stateIn (capacityOf w) w) × car.WellFormed (stateIn (capacityOf w) w)
 unfolding stateIn
-car-sound w words q = (state-writes 2 w q, car-formed (capacityOf w) (partsOf (capacityOf w) w) (passed 2 w q .holds) (pages-below (capacityOf w) w words))
+car-sound w words q =
+    let c = capacityOf w in
+    (state-writes 2 w q, state-well-formed c (partsOf c w) (passed 2 w q .holds) (λ x _. pages-below c w words x))
 
 -- ---- COMPLETE: nothing is asked of the words' size
 parts-complete : (kind c : ℕ) (p : Parts) → Holds c p → sumsTest kind c p ≡ true → partsTest kind c p ≡ true
@@ -100,14 +111,22 @@ header-complete : (kind c : ℕ) (w : List ℕ) → capacityOf w ≡ c → kindO
 unfolding stateTest
 header-complete kind c w q k small size aim parts = rw (le-ltb (length w) 64 (omega arith), eq-eqb (kindOf w) kind k, q, le-ltb 1024 c small, le-ltb (length w) (24 * c + 64) size, le-ltb c (targetOf w) aim) parts
 
-state-complete : (kind : ℕ) (w : List ℕ) (s : Car) → Writes kind w s → sumsTest kind (s .lists .c) (partsOf (s .lists .c) w) ≡ true → stateTest kind w ≡ true
+state-complete : (kind : ℕ) (w : List ℕ) (s : Car)
+    → Writes kind w s
+    → sumsTest kind (s .lists .c) (partsOf (s .lists .c) w) ≡ true
+    → stateTest kind w ≡ true
 state-complete kind w s r sums =
-    let h : Holds (s .lists .c) (partsOf (s .lists .c) w) = r .stored .holds in
-    header-complete kind (s .lists .c) w (r .stored .capacity) (r .kind) (h .small) (r .stored .size) (rw (target-is (s .lists .c) w) at (h .target)) (parts-complete kind (s .lists .c) (partsOf (s .lists .c) w) h sums)
+    let c = s .lists .c in
+    let h : Holds c (partsOf c w) = r .stored .holds in
+    let aim : targetOf w ≤ c = rw (target-is c w) at (h .target) in
+    header-complete kind c w (r .stored .capacity) (r .kind) (h .small) (r .stored .size) aim
+    (parts-complete kind c (partsOf c w) h sums)
 
 pub arc-complete : (w : List ℕ) (s : Car) → Writes 1 w s → arc.WellFormed (arcOf s) → stateTest 1 w ≡ true
 unfolding stateIn
-arc-complete w s r f = state-complete 1 w s r (arc-sums-pass (s .lists .c) (partsOf (s .lists .c) w) (r .stored .holds) (rw (r .reads) f))
+arc-complete w s r f =
+    let c = s .lists .c in
+    state-complete 1 w s r (arc-sums-pass c (partsOf c w) (r .stored .holds) (rw (r .reads) f))
 
 -- of CAR nothing but the writing is asked: what words write obeys its rules
 pub car-complete : (w : List ℕ) (s : Car) → Writes 2 w s → car.WellFormed s → stateTest 2 w ≡ true
