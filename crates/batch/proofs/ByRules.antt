@@ -12,22 +12,44 @@ use Rattle.calls.specs.Policy.{Policy, reads}
 use Rattle.calls.proofs.Exact.{Exact}
 use Rattle.calls.proofs.ByRules.{by-rules}
 use Rattle.batch.specs.Outcomes.{countsIs, outcome, BatchOutcome}
-use Rattle.batch.specs.Writing.{BatchByRules}
+use Rattle.batch.specs.Writing.{gives, after, BatchByRules}
 use Rattle.batch.specs.declared.Counts.{Counts}
 
-module _ (P : Policy) (trace : List ℕ) (lent : Counts) (w v : List ℕ) (a : Answer) (n : Counts) (o : BatchOutcome P trace lent w v a n) where
-  -- A BATCH ON A STATE answers, counts and leaves what the rules say
-  pub batch-is : (t : P .State) → reads P w ≡ some t
-      → (_≡_ {A = Answer × counting.Counts} (a, countsIs n) (answerOf (batch (P .does) 0 trace t), batch (P .does) 0 trace t .counts)) × (reads P v ≡ some (batch (P .does) 0 trace t .state))
-  unfolding batched
-  batch-is t r =
-      let b = batch (P .does) 0 trace t in
-      let q : outcome P a v n ≡ record { answer = answerOf b; area = some (b .state); counts = b .counts } = o .is ∙ rw r refl in
-      (ap (λ (d : BatchDone (P .State)). (d .answer, d .counts)) q, ap (λ (d : BatchDone (P .State)). d .area) q)
+-- its answer and its counts
+abbrev given : {S : Type 0} → BatchDone S → Answer × counting.Counts
+given d = (d .answer, d .counts)
 
-  pub batch-by-rules : Exact P → Words w → Words v → BatchByRules P trace lent w v a n
+module _ (P : Policy) (trace : List ℕ) (lent : Counts) (w v : List ℕ) (a : Answer) (n : Counts) where
+  -- A BATCH ON A STATE answers, counts and leaves what the rules say
+  pub batch-is : BatchOutcome P trace lent w v a n
+      → (t : P .State)
+      → reads P w ≡ some t
+      → (_≡_ {A = Answer × counting.Counts} (a, countsIs n) (gives P trace t)) × (reads P v ≡ some (after P trace t))
   unfolding batched
-  batch-by-rules e words words-left =
-      by-rules P e {X = Answer × counting.Counts} (λ t. (answerOf (batch (P .does) 0 trace t), batch (P .does) 0 trace t .counts)) (λ t. batch (P .does) 0 trace t .state) (Refused 3, countsIs lent) w v (a, countsIs n) words words-left batch-is
-      (λ r. let q : outcome P a v n ≡ record { answer = Refused 3; area = none; counts = countsIs lent } = o .is ∙ rw r refl in (ap (λ (d : BatchDone (P .State)). (d .answer, d .counts)) q, o .refused r))
-      (o .size) (o .rest)
+  batch-is o t r =
+      let b = batch (P .does) 0 trace t in
+      let d : BatchDone (P .State) = record { answer = answerOf b; area = some (b .state); counts = b .counts } in
+      let q : outcome P a v n ≡ d = o .is ∙ rw r refl in
+      (ap given q, ap (λ (d : BatchDone (P .State)). d .area) q)
+
+  -- A BATCH ON NO STATE is refused with 3 and changes nothing
+  pub batch-refused : BatchOutcome P trace lent w v a n
+      → reads P w ≡ none
+      → (_≡_ {A = Answer × counting.Counts} (a, countsIs n) (Refused 3, countsIs lent)) × (v ≡ w)
+  unfolding batched
+  batch-refused o r =
+      let d : BatchDone (P .State) = record { answer = Refused 3; area = none; counts = countsIs lent } in
+      let q : outcome P a v n ≡ d = o .is ∙ rw r refl in
+      (ap given q, o .refused r)
+
+  pub batch-by-rules : Exact P
+      → Words w
+      → Words v
+      → BatchOutcome P trace lent w v a n
+      → BatchByRules P trace lent w v a n
+  batch-by-rules e words words-left o =
+      by-rules P e (gives P trace) (after P trace) (Refused 3, countsIs lent) w v (a, countsIs n) words words-left
+      (batch-is o)
+      (batch-refused o)
+      (o .size)
+      (o .rest)

@@ -9,7 +9,15 @@ use Rattle.calls.specs.Writing.{ByRules}
 use Rattle.batch.specs.Outcomes.{countsIs}
 use Rattle.batch.specs.declared.Counts.{Counts}
 
--- on the words w, with the counts `lent`, it answers a, leaves the words v and the counts n: "the operations done, or the refusal", and "this batch's" counts
-abbrev pub BatchByRules : (P : Policy) → List ℕ → Counts → List ℕ → List ℕ → Answer → Counts → Type 0
-BatchByRules P trace lent w v a n =
-    ByRules P {X = Answer × counting.Counts} (λ t. (answerOf (batch (P .does) 0 trace t), batch (P .does) 0 trace t .counts)) (λ t. batch (P .does) 0 trace t .state) (Refused 3, countsIs lent) w v (a, countsIs n)
+module _ (P : Policy) (trace : List ℕ) where
+  -- "the operations done, or the refusal", and "this batch's" counts, on the state t; the state that it leaves
+  abbrev pub gives : P .State → Answer × counting.Counts
+  gives t = let b = batch (P .does) 0 trace t in (answerOf b, b .counts)
+
+  abbrev pub after : P .State → P .State
+  after t = batch (P .does) 0 trace t .state
+
+  -- on the words w, with the counts `lent`, it answers a, and leaves the words v and the counts n
+  abbrev pub BatchByRules : Counts → List ℕ → List ℕ → Answer → Counts → Type 0
+  BatchByRules lent w v a n =
+      ByRules P {X = Answer × counting.Counts} gives after (Refused 3, countsIs lent) w v (a, countsIs n)

@@ -1,5 +1,5 @@
--- What a contract says of an area that reads as a state. In order: a call; a question, which leaves the area; `new`.
--- Assumes nothing.
+-- What a contract says of an area that reads as a state, and of one that reads as none. In order: a call; a question,
+-- which leaves the area; `new`. Assumes nothing.
 use mathlib.Core.Path.{_≡_, refl, ap, _∙_}
 use mathlib.Core.Bool.{Bool, true, false, cond}
 use mathlib.Core.List.{List}
@@ -22,6 +22,16 @@ module _ (P : Policy) where
   outcome-is k w v a s o r =
       let q : done a (reads P v) ≡ done (P .does k s .answer) (some (P .does k s .state)) = o .is ∙ rw r refl in
       (ap (λ d. d .answer) q, ap (λ d. d .state) q)
+
+  -- A CALL ON NO STATE is refused with 3 and changes nothing
+  pub outcome-refused : (k : Call) (w v : List ℕ) (a : Answer)
+      → Outcome P k w v a
+      → reads P w ≡ none
+      → (a ≡ Refused 3) × (v ≡ w)
+  unfolding called
+  outcome-refused k w v a o r =
+      let q : done a (reads P v) ≡ done (Refused 3) none = o .is ∙ rw r refl in
+      (ap (λ d. d .answer) q, o .refused r)
 
   -- A QUESTION is a call that leaves the area as it is
   pub told-outcome : Exact P → (q : Question) (w : List ℕ) (a : Answer) → Told P q w a → Outcome P (Ask q) w w a

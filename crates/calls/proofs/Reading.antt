@@ -1,5 +1,5 @@
--- WHAT WORDS READ AS. In order: by the state test; an area that an inner call may take; exactly where they are a writing of a well-formed state, and of which.
--- Assumes nothing.
+-- WHAT WORDS READ AS. In order: by the state test; an area that an inner call may take; exactly where they are a
+-- writing of a well-formed state, and of which. Assumes nothing.
 use mathlib.Core.Path.{_≡_, refl, sym, subst, ap, _∙_}
 use mathlib.Core.Bool.{Bool, true, false, cond}
 use mathlib.Core.List.{List}
@@ -8,7 +8,7 @@ use Prim.Native.Nat.{ℕ}
 use native.Mathlib.Omega.{arith}
 use Rattle.parts.specs.Parts as parts
 use Rattle.area.specs.Area.{capacityOf}
-use Rattle.area.specs.Stored.{stateIn, Writes}
+use Rattle.area.specs.Stored.{stateIn}
 use Rattle.state_check.specs.Check.{Words, stateTest}
 use Rattle.state_check.proofs.State.{state-writes, writes-read}
 use Rattle.calls.specs.Policy.{Policy, stateOf, reads}
@@ -27,22 +27,37 @@ module _ (P : Policy) where
   reads-none w q = rw q refl
 
   -- words that read as t have passed the test, and t is what they hold
-  pub reads-is : (w : List ℕ) (t : P .State) → reads P w ≡ some t → (stateTest (P .kind) w ≡ true) × (stateOf P (capacityOf w) w ≡ t)
+  pub reads-is : (w : List ℕ) (t : P .State)
+      → reads P w ≡ some t
+      → (stateTest (P .kind) w ≡ true) × (stateOf P (capacityOf w) w ≡ t)
   unfolding reads
   reads-is w t = by (stateTest (P .kind) w) refl
     where
-      by : (b : Bool) → stateTest (P .kind) w ≡ b → cond b (some (stateOf P (capacityOf w) w)) none ≡ some t → (stateTest (P .kind) w ≡ true) × (stateOf P (capacityOf w) w ≡ t)
+      by : (b : Bool)
+          → stateTest (P .kind) w ≡ b
+          → cond b (some (stateOf P (capacityOf w) w)) none ≡ some t
+          → (stateTest (P .kind) w ≡ true) × (stateOf P (capacityOf w) w ≡ t)
       by true q e = (q, cc)
       by false q e = absurd (let z : _≡_ {A = ℕ} 0 1 = cc in let x : ⊥ = omega arith in x)
 
   -- ---- an area that an inner call may take is a writing of its state, and a writing is such an area
   pub good-writing : (c : ℕ) (w : List ℕ) → Good P c w → WritingOf P w (stateOf P c w)
   unfolding stateIn parts.stateOf
-  good-writing c w g = record { state = stateIn c w; writes = record { kind = g .kind; stored = g .stored; reads = refl }; view = refl; well = g .well }
+  good-writing c w g =
+      record {
+        state = stateIn c w;
+        writes = record { kind = g .kind; stored = g .stored; reads = refl };
+        view = refl;
+        well = g .well;
+      }
 
   pub writing-good : (w : List ℕ) (t : P .State) (x : WritingOf P w t) → Good P (x .state .lists .c) w
   writing-good w t x =
-      record { stored = x .writes .stored; kind = x .writes .kind; well = subst (P .WellFormed) (sym (ap (P .view) (x .writes .reads) ∙ x .view)) (x .well) }
+      record {
+        stored = x .writes .stored;
+        kind = x .writes .kind;
+        well = subst (P .WellFormed) (sym (ap (P .view) (x .writes .reads) ∙ x .view)) (x .well);
+      }
 
   -- ---- EXACTLY: words read as t where they are a writing of it, and it is well formed
   pub reads-complete : Exact P → (w : List ℕ) (t : P .State) → WritingOf P w t → reads P w ≡ some t
@@ -54,7 +69,12 @@ module _ (P : Policy) where
   pub reads-sound : Exact P → (w : List ℕ) (t : P .State) → Words w → reads P w ≡ some t → WritingOf P w t
   reads-sound e w t words r =
       let q = reads-is w t r in
-      record { state = stateIn (capacityOf w) w; writes = state-writes (P .kind) w (q .0); view = q .1; well = subst (P .WellFormed) (q .1) (e .sound w words (q .0)) }
+      record {
+        state = stateIn (capacityOf w) w;
+        writes = state-writes (P .kind) w (q .0);
+        view = q .1;
+        well = subst (P .WellFormed) (q .1) (e .sound w words (q .0));
+      }
 
   -- and as nothing where they are a writing of none
   pub none-sound : Exact P → (w : List ℕ) → reads P w ≡ none → NoWriting P w
@@ -74,4 +94,6 @@ module _ (P : Policy) where
   -- GOOD: words that pass the test are an area that an inner call may take
   pub good : Exact P → (w : List ℕ) → Words w → stateTest (P .kind) w ≡ true → Good P (capacityOf w) w
   unfolding stateIn parts.stateOf
-  good e w words q = let r = state-writes (P .kind) w q in record { stored = r .stored; kind = r .kind; well = e .sound w words q }
+  good e w words q =
+      let r = state-writes (P .kind) w q in
+      record { stored = r .stored; kind = r .kind; well = e .sound w words q }

@@ -1,29 +1,38 @@
--- WORDS AND STATES: when words are a writing of a well-formed state, and what 01 says of a call on them. Assumes nothing.
+-- WORDS AND STATES: when words are a writing of a well-formed state, and what 01 says of a call on them.
+-- Assumes nothing.
 --
--- The names between a state and the words that an inner call may take, each with what it adds to the one before:
+-- The names from a state to the words that an inner call may take. Each says what it adds to those above it.
 --
---   Sound        rules/specs/State      of the four lists of a state, either policy: "all pages, resident and ghost, are distinct; residents <= c;
---                                       each ghost list <= c; 0 <= target <= c"
---   Obeys        rules/specs/Arc, Car   Sound, and the policy's own rule: ARC's two sums of lengths, CAR's slots
---   WellFormed   rules/specs/Arc, Car   Obeys, and Ranged (rules/specs/State): pages are u64, frames u32, c at most 1,024. 01's "well formed", of a state
---   Holds        parts/specs/Parts      of words, cut into parts: the rings, the ghost lists and the lookup are as they have to be, and the lookup
---                                       holds exactly the places of the lists
---   Stored       area/specs/Stored      Holds, of the parts that an area is cut into; its header has the capacity c, and it has the words for it
---   Writes       area/specs/Stored      Stored; the header has the kind, and the words read as the state s
---   WritingOf    here                   Writes, as the policy sees s, and WellFormed: the words are a writing of a well-formed state
---   Good         Inner                  the same of an area whose capacity is known: what an inner call asks
+--   Sound        rules/specs/State     of the four lists of a state: "all pages, resident and ghost, are distinct;
+--                                      residents <= c; each ghost list <= c; 0 <= target <= c"
+--   Obeys        rules/specs/Arc, Car  Sound, and the policy's own rule: ARC's two sums of lengths, CAR's slots
+--   Ranged       rules/specs/State     pages are u64, frames u32, c is at most 1,024
+--   WellFormed   rules/specs/Arc, Car  Obeys and Ranged: 01's "well formed", of a state
+--   Holds        parts/specs/Parts     of words, cut into parts: the rings, the ghost lists and the lookup are as they
+--                                      have to be, and the lookup holds exactly the places of the lists
+--   Stored       area/specs/Stored     Holds, of an area's parts; its header has the capacity c, and it is long enough
+--   Writes       area/specs/Stored     Stored; the header has the kind, and the words read as the state s
+--   WritingOf    here                  Writes, as the policy sees s, and WellFormed: 01's "well formed", of words
+--   Good         Inner                 the same, where the caller has the capacity: what an inner call asks
 --
--- and what links them:
+-- What links them:
 --
---   every call keeps Obeys, and WellFormed where its page is a u64 and its frame a u32     rules/proofs/ClosureArc, ClosureCar, Closure
---   what parts that Hold read as obeys CAR's rules, and ARC's but for the sums             parts/proofs/Reading#state-obeys
---   the state test passes exactly where the words write a well-formed state                state_check/proofs/State#arc-sound, arc-complete, ..
---   words write one state at most, and never one of each kind                              state_check/proofs/State#unique, kinds-apart
---   `reads` gives a state exactly where the words are a WritingOf it, and else nothing      calls/proofs/Reading#reads-sound, reads-complete, ..
---   Good and WritingOf say the same of one area                                            calls/proofs/Reading#good-writing, writing-good
+--   Every call keeps Obeys; and WellFormed, where its page is a u64 and its frame a u32.
+--       rules/proofs/ClosureArc, ClosureCar (`does-obeys`), Closure (`arc-call`, `car-call`)
+--   What parts that Hold read as obeys CAR's rules. So it is Sound, and ARC's rule is left to be tested: the two sums.
+--       parts/proofs/Reading (`state-obeys`)
+--   The state test passes exactly where words of 64 bits write a well-formed state.
+--       state_check/proofs/State (`arc-sound`, `arc-complete`, `car-sound`, `car-complete`)
+--   Words write one state at most, and not one of each kind.
+--       state_check/proofs/State (`unique`, `kinds-apart`)
+--   `reads` gives a state exactly where the words are a WritingOf it, and nothing exactly where they are of none.
+--       calls/proofs/Reading (`reads-sound`, `reads-complete`, `none-sound`, `none-complete`)
+--   Good and WritingOf say the same of an area.
+--       calls/proofs/Reading (`good-writing`, `writing-good`)
 --
--- So "not well formed for that policy", for which 01 gives refusal 3, is NoWriting. `reads` (Policy), by which the contracts of the public calls speak, is the check's own
--- test; the theorems of calls/proofs/ByRules say the same contracts without it.
+-- So an area is "not well formed for that policy", for which 01 gives refusal 3, exactly where there is NoWriting. The
+-- contracts of the public calls (Outer, and those of batch and listing) speak through `reads` (Policy), which is the
+-- check's own test. ByRules says them without it, and follows from them: calls/proofs/ByRules.
 use mathlib.Core.Path.{_≡_}
 use mathlib.Core.List.{List}
 use Prim.Native.Nat.{ℕ, _+_, _*_, _<_, _≤_}
@@ -48,29 +57,32 @@ module _ (P : Policy) where
   abbrev pub NoWriting : List ℕ → Type 0
   NoWriting w = (t : P .State) → WritingOf w t → ⊥
 
-  -- "3 STATE": the answer a on the words w is refusal 3 exactly when they are a writing of no well-formed state
+  -- "3 STATE": the answer a on the words w is refusal 3 exactly where they are a writing of no well-formed state
   pub record Exactly (w : List ℕ) (a : Answer) : Type 0 where
     pub only : a ≡ Refused 3 → NoWriting w
     pub always : Words w → NoWriting w → a ≡ Refused 3
 
-  -- WHAT 01 SAYS OF A CALL, any but `new`: on the words w it gives x (its answer, and with it the counts or the records that it was lent) and leaves the words v. On a state t the rules give
-  -- `gives t` and leave `after t`; `kept` is a refusal 3, with what was lent as it was.
-  pub record ByRules {X : Type 0} (gives : P .State → X) (after : P .State → P .State) (kept : X) (w v : List ℕ) (x : X) : Type 0 where
-    -- on a writing of a well-formed state: what the rules give, and a writing of the rules' state, which is well formed again
+  -- WHAT 01 SAYS OF A CALL, any but `new`. On the words w it gives x and leaves the words v; x is its answer, and with
+  -- it the counts or the records that it was lent. On a state t the rules give `gives t` and leave the state `after t`.
+  -- `kept` is refusal 3, with what was lent as it was.
+  pub record ByRules {X : Type 0} (gives : P .State → X) (after : P .State → P .State) (kept : X)
+      (w v : List ℕ) (x : X) : Type 0 where
+    -- on a writing of a well-formed state: what the rules give, and a writing of the rules' state, well formed again
     pub given : (t : P .State) → WritingOf w t → x ≡ gives t
     pub left : (t : P .State) → WritingOf w t → WritingOf v (after t)
-    -- "any other call on an area not well formed for that policy .. all unchanged"
+    -- "3 STATE: any other call on an area not well formed for that policy .. all unchanged"
     pub refused : NoWriting w → x ≡ kept
     pub unchanged : NoWriting w → v ≡ w
     -- "Words past those are never written"
     pub size : length v ≡ length w
     pub rest : drop (wordsNeeded (capacityOf w)) v ≡ drop (wordsNeeded (capacityOf w)) w
 
-  -- a call k, which answers a; a question is one that leaves w
+  -- a call k that answers a; a question leaves v = w
   abbrev pub CallByRules : Call → List ℕ → List ℕ → Answer → Type 0
   CallByRules k w v a = ByRules (λ t. P .does k t .answer) (λ t. P .does k t .state) (Refused 3) w v a
 
-  -- WHAT 01 SAYS OF `NEW`: "1 CAPACITY: `new` with c > 1,024", "2 AREA: `new` with fewer than 24c + 64 words", 1 before 2, "area unchanged"; and else an empty cache is made
+  -- WHAT 01 SAYS OF `NEW`: "1 CAPACITY: `new` with c > 1,024", "2 AREA: `new` with fewer than 24c + 64 words", 1 before
+  -- 2, "area unchanged"; and else an empty cache is made
   pub record NewExactly (c : ℕ) (w v : List ℕ) (a : Answer) : Type 0 where
     pub too-large : 1024 < c → a ≡ Refused 1
     pub too-short : c ≤ 1024 → length w < 24 * c + 64 → a ≡ Refused 2

@@ -11,7 +11,13 @@ use Rattle.listing.specs.Outcome.{recordsAre, listedIs}
 use Rattle.listing.specs.declared.Record.{Record}
 use Rattle.listing.specs.declared.Listed.{Listed}
 
--- on the words w, which it leaves, with the records `lent`, it answers a and leaves the records `left`: how many there are and each of them, or refusal 6 and all as it was
-abbrev pub ListingByRules : (P : Policy) → List ℕ → List Record → List Record → Listed → Type 0
-ListingByRules P w lent left a =
-    ByRules P {X = Answer × List rules.Record} (λ t. (P .does (Ask (Listing (length lent))) t .answer, written (P .listing t) (recordsAre lent))) (λ t. t) (Refused 3, recordsAre lent) w w (listedIs a, recordsAre left)
+module _ (P : Policy) (lent : List Record) where
+  -- how many residents there are and the record of each, over the records `lent`; or refusal 6, and all as it was
+  abbrev pub gives : P .State → Answer × List rules.Record
+  gives t = (P .does (Ask (Listing (length lent))) t .answer, written (P .listing t) (recordsAre lent))
+
+  -- on the words w, which it leaves, it answers a and leaves the records `left`
+  abbrev pub ListingByRules : List ℕ → List Record → Listed → Type 0
+  ListingByRules w left a =
+      let kept : Answer × List rules.Record = (Refused 3, recordsAre lent) in
+      ByRules P gives (λ t. t) kept w w (listedIs a, recordsAre left)
