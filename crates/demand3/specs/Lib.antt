@@ -1,2 +1,3 @@
--- The runs that demand 3 speaks of. Assumes nothing.
+-- The runs that demand 3 speaks of, and what it says of them. Assumes nothing.
 pub mod Runs
+pub mod Paying

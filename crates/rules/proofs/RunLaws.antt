@@ -1,24 +1,15 @@
 -- A batch, the calls of its operations, and the trace check agree, for any bytes and either policy.
 -- Assumes nothing.
-use mathlib.Core.Path.{_≡_, refl, ap}
-use mathlib.Core.List.{List, [], _∷_, map}
+use mathlib.Core.Path.{refl, ap}
+use mathlib.Core.List.{List, [], _∷_}
 use Prim.Native.Nat.{ℕ, zero, suc, _+_, _-_}
-use lib.ListN.{length}
-use Rattle.trace.specs.Reading.{Parsed, whole, refused, operationOf, Reading, readAt, readFrom, checkOf}
+use Rattle.trace.specs.Reading.{Parsed, whole, refused, operationOf, Reading, readAt, readFrom}
 use Rattle.rules.specs.Calls.{Call, Done, run}
-use Rattle.rules.specs.Counts.{counted, plus, tally}
+use Rattle.rules.specs.Counts.{counted, plus}
 use Rattle.rules.specs.Batch.{callOf, Batched, runAt, runFrom, batch}
+use Rattle.rules.specs.Agreeing.{Agrees, AsChecked}
 
 module _ {S : Type 0} where
-  -- a batch b agrees with the trace's reading r and with the run of its calls
-  pub record Agrees (does : Call → S → Done S) (s : S) (r : Reading) (b : Batched S) : Type 0 where
-    pub done : b .done ≡ length (r .operations)
-    pub refusal : b .refusal ≡ r .refusal
-    pub offset : b .offset ≡ r .offset
-    pub answers : b .answers ≡ run does (map callOf (r .operations)) s .answers
-    pub state : b .state ≡ run does (map callOf (r .operations)) s .state
-    pub counts : b .counts ≡ tally (run does (map callOf (r .operations)) s .answers)
-
   at-agrees : (does : Call → S → Done S) (o : ℕ) (p : Parsed) (f : ℕ → Reading) (g : ℕ → S → Batched S) (s : S)
       → ((k : ℕ) (t : S) → Agrees does t (f k) (g k t)) → Agrees does s (readAt o p f) (runAt does o p g s)
   unfolding readAt runAt run
@@ -44,12 +35,7 @@ module _ {S : Type 0} where
   batch-runs does o zero (b ∷ bs) s =
       at-agrees does o (operationOf b bs) (λ k. readFrom (o + 1) k bs) (λ k t. runFrom does (o + 1) k bs t) s (λ k t. batch-runs does (o + 1) k bs t)
 
-  -- "For any bytes: the trace check's answer and the run of the trace agree": the same operations done, refusal and offset
-  pub record AsChecked (bs : List ℕ) (b : Batched S) : Type 0 where
-    pub operations : b .done ≡ checkOf bs .operations
-    pub refusal : b .refusal ≡ checkOf bs .refusal
-    pub offset : b .offset ≡ checkOf bs .offset
-
+  -- "For any bytes: the trace check's answer and the run of the trace agree"
   pub check-agrees : (does : Call → S → Done S) (bs : List ℕ) (s : S) → AsChecked bs (batch does 0 bs s)
   check-agrees does bs s =
       let a = batch-runs does 0 0 bs s in

@@ -194,7 +194,7 @@ unfolding Car.removed
 car-removed-count none x s h w = refl
 car-removed-count (some e) x s h w = omega (arith, leaves-one x (s .lists) e w h)
 
-car-insert-count : (z : Bool) (o : Option Car.Resident) (x f : ℕ) (s : Car.Car) → eqb (s .lists .c) 0 ≡ z → resident x (s .lists) ≡ o → Sound (s .lists)
+pub car-insert-count : (z : Bool) (o : Option Car.Resident) (x f : ℕ) (s : Car.Car) → eqb (s .lists .c) 0 ≡ z → resident x (s .lists) ≡ o → Sound (s .lists)
     → residents (Car.inserted z o x f s .state .lists) ≡ grown z o (s .lists .c) (residents (s .lists))
 unfolding Car.inserted Car.insertAt Car.admitted
 car-insert-count true o x f s hc h w = refl

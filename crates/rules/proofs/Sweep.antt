@@ -5,27 +5,19 @@ use mathlib.Core.List.{List, [], _∷_, _++_}
 use mathlib.Core.Bool.{Bool, true, false}
 use Prim.Native.Nat.{ℕ, zero, suc, _+_, _-_, _≤_}
 use native.Mathlib.Omega.{arith}
-use lib.Dec.{eqb}
 use lib.ListN.{length, length-append}
 use Rattle.rules.specs.Lists.{one, times}
 use Rattle.rules.specs.State.{pages, Lists, Side, first, second, list, setList, residents, seen}
-use Rattle.rules.specs.Calls.{Victim, nobody, out, Replaced, steps}
+use Rattle.rules.specs.Calls.{Replaced, steps}
 use Rattle.rules.specs.Stages.{turn}
 use Rattle.rules.specs.Counts.{outs}
 use Rattle.rules.specs.Car.{Clocked, Resident, withBit, slots, marks, Car, referenced, taken, Obeys, handOf, passed, evicted, stepThen, stepBy, step, lastStep, sweep, replace}
+use Rattle.rules.specs.Demand3.{held, goes}
 use Rattle.rules.proofs.ListLaws.{Plus, cons-plus, snoc-plus, times-keys-append}
 use Rattle.rules.proofs.StateLaws.{put-out, turn-some, residents-set, seen-set}
 use Rattle.rules.proofs.Slots.{slotOf, marks-append, taken-set, referenced-set}
 
--- ---- how often a page stands among the residents; and whether it is a victim's
-abbrev pub held : ℕ → Lists Clocked → ℕ
-held y s = times y (pages (s .T1)) + times y (pages (s .T2))
-
-abbrev pub goes : ℕ → Victim → ℕ
-goes y nobody = 0
-goes y (out p f i) = one (eqb y p)
-
-held-set : (y : ℕ) (i : Side) (l : List Resident) (s : Lists Clocked) → held y (setList i l s) + times y (pages (list i s)) ≡ held y s + times y (pages l)
+pub held-set : (y : ℕ) (i : Side) (l : List Resident) (s : Lists Clocked) → held y (setList i l s) + times y (pages (list i s)) ≡ held y s + times y (pages l)
 held-set y first l s = omega arith
 held-set y second l s = omega arith
 

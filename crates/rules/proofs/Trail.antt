@@ -11,6 +11,7 @@ use Rattle.rules.specs.State.{Side, first, second, list}
 use Rattle.rules.specs.Calls.{Replaced}
 use Rattle.rules.specs.Stages.{fromT1, side, turn}
 use Rattle.rules.specs.Car.{Resident, withBit, Car, referenced, at, handOf, hand, passed, evicted, stepThen, stepBy, step, lastStep, sweep, replace}
+use Rattle.rules.specs.Demand3.{TurnsOnce}
 use Rattle.rules.proofs.Sweep.{Passed, pass-law, none-marked}
 
 -- ---- a replacement is one step at the hand and then, where that evicted nobody, a replacement
@@ -68,10 +69,6 @@ same-turn hit e rest s h =
 -- a trail that stays at the frequent clock
 abbrev AllSecond : List Side → Type 0
 AllSecond l = l ≡ replicate (length l) second
-
--- a trail that turns from the recent to the frequent clock at most once and never back
-abbrev pub TurnsOnce : List Side → Type 0
-TurnsOnce l = (a : ℕ) × (b : ℕ) × (l ≡ replicate a first ++ replicate b second)
 
 second-by : (b : Bool) (e : Resident) (rest : List Resident) (s : Car) (on : Car → Replaced Car) → AllSecond (on (passed second e rest s) .trail) → AllSecond (stepBy b second e rest on s .trail)
 unfolding stepBy

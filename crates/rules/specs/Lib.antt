@@ -9,6 +9,8 @@ pub mod Car
 pub mod Check
 pub mod Counts
 pub mod Batch
+pub mod Agreeing
+pub mod Demand3
 pub mod Public
 pub mod Decimal
 pub mod Program

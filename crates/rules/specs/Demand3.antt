@@ -1,0 +1,58 @@
+-- WHAT DEMAND 3 SAYS, of CAR's states: the sum over any calls; a replacement; an insert that replaces. Assumes nothing.
+use mathlib.Core.Path.{_≡_}
+use mathlib.Core.Bool.{Bool, true, false}
+use mathlib.Core.List.{List, _++_}
+use Prim.Native.Nat.{ℕ, _+_, _≤_}
+use lib.Dec.{eqb}
+use lib.ListN.{replicate}
+use Rattle.rules.specs.Lists.{one, times}
+use Rattle.rules.specs.State.{pages, Lists, Side, first, second, residents, resident}
+use Rattle.rules.specs.Calls.{Victim, nobody, out, isThere, Replaced, steps}
+use Rattle.rules.specs.Counts.{Counts, hits, outs}
+use Rattle.rules.specs.Car.{Clocked, Car, referenced}
+
+-- "from any well-formed state with r0 referenced pages and over any calls: hand steps plus pages still referenced at
+-- the end never exceed r0 plus hits plus evictions": from the state s to the state t, with the counts n
+abbrev pub Paid : Car → Counts → Car → Type 0
+Paid s n t = n .steps + referenced (t .lists) ≤ referenced (s .lists) + hits n + n .evictions
+
+-- ---- "Each replacement on a full cache with r referenced pages ends within r+1 steps, turns from the recent to the
+-- frequent clock at most once and never back, and puts out exactly one page."
+-- how often a page stands among the residents; and whether it is a victim's
+abbrev pub held : ℕ → Lists Clocked → ℕ
+held y s = times y (pages (s .T1)) + times y (pages (s .T2))
+
+abbrev pub goes : ℕ → Victim → ℕ
+goes y nobody = 0
+goes y (out p f i) = one (eqb y p)
+
+-- the clocks that the steps stood at turn from the recent to the frequent one at most once and never back
+abbrev pub TurnsOnce : List Side → Type 0
+TurnsOnce l = (a : ℕ) × (b : ℕ) × (l ≡ replicate a first ++ replicate b second)
+
+-- the replacement r of the state s
+pub record Ends (s : Car) (r : Replaced Car) : Type 0 where
+  pub within : steps r ≤ referenced (s .lists) + 1
+  pub turns : TurnsOnce (r .trail)
+  pub single : outs (r .victim) ≡ 1
+  -- the victim leaves the residents, and no other page does
+  pub others : (y : ℕ) → held y (s .lists) ≡ held y (r .state .lists) + goes y (r .victim)
+
+-- ---- "puts out exactly one page", of a whole insert
+-- a page is resident, as `contains` answers
+abbrev pub isIn : ℕ → Car → Bool
+isIn y s = isThere (resident y (s .lists))
+
+-- an insert of the page x, from the state s to the state t, with the page p as its victim
+pub record OneOut (s t : Car) (x p : ℕ) : Type 0 where
+  -- the cache was full, and is
+  pub was-full : residents (s .lists) ≡ s .lists .c
+  pub is-full : residents (t .lists) ≡ s .lists .c
+  -- the victim was resident, and is no longer
+  pub was-in : isIn p s ≡ true
+  pub is-out : isIn p t ≡ false
+  -- x was not, and is
+  pub was-out : isIn x s ≡ false
+  pub is-in : isIn x t ≡ true
+  -- and of every other page it is as it was
+  pub others : (y : ℕ) → (y ≡ p → ⊥) → (y ≡ x → ⊥) → isIn y t ≡ isIn y s
