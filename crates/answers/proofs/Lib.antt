@@ -1,2 +1,3 @@
 -- The laws of answers. Assumes nothing.
 pub mod Laws
+pub mod OneToOne

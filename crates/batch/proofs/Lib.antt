@@ -3,5 +3,6 @@ pub mod Counting
 pub mod Paying
 pub mod Refusing
 pub mod ByRules
+pub mod Equal
 pub mod Turning
 pub mod Passing

@@ -1,15 +1,11 @@
--- From the state test and the inner batch to the public one, in the shapes of the code; and ANY TWO OUTCOMES OF A BATCH ARE EQUAL. Assumes nothing.
-use mathlib.Core.Path.{_≡_, refl, sym, ap, _∙_}
+-- From the state test and the inner batch to the public one, in the shapes of the code. Assumes nothing.
+use mathlib.Core.Path.{_≡_, refl}
 use mathlib.Core.List.{List}
-use mathlib.Core.Option.{none}
 use Prim.Native.Nat.{ℕ}
 use native.Mathlib.Omega.{arith}
-use lib.ListN.{length, drop}
 use borrow.Author.Needs.{needs}
-use Rattle.rules.specs.Calls.{Answer}
-use Rattle.rules.specs.Public.{wordsNeeded, BatchDone, batched}
-use Rattle.area.specs.Area.{capacityOf}
-use Rattle.calls.specs.Policy.{Policy, policyOf, reads}
+use Rattle.rules.specs.Public.{batched}
+use Rattle.calls.specs.Policy.{Policy, policyOf}
 use Rattle.calls.specs.Inner.{Good}
 use Rattle.calls.specs.declared.Kind.{Kind}
 use Rattle.calls.proofs.Exact.{Exact, exact-of}
@@ -18,7 +14,7 @@ use Rattle.opening.specs.Opening.{Opens}
 use Rattle.opening.specs.declared.Opened.{Opened}
 use Rattle.opening.specs.declared.Opened.the-variants.{Cache, Refused}
 use Rattle.opening.proofs.Public.{opens-as, opened-good}
-use Rattle.batch.specs.Outcomes.{countsIs, ranIs, Finishes, BatchOutcome}
+use Rattle.batch.specs.Outcomes.{ranIs, Finishes, BatchOutcome}
 use Rattle.batch.specs.declared.Counts.{Counts}
 use Rattle.batch.specs.declared.Ran.the-variants as ran
 use Rattle.batch.specs.declared.Tally.{Tally}
@@ -52,27 +48,5 @@ module _ (k : Kind) (o : Opened) (w : List ℕ) (h : Opens (policyOf k .kind) w 
   refused q trace lent =
       let z = reads-none (policyOf k) w (opens-as (policyOf k) o w h Refused q) in
       record { is = rw z refl; size = refl; rest = refl; refused = λ _. refl }
-
--- ---- two outcomes of one batch: the answers a and b, the areas u and v, the counts m and n
-pub record SameBatch (P : Policy) (w u v : List ℕ) (a b : Answer) (m n : Counts) : Type 0 where
-  pub answer : a ≡ b
-  pub state : reads P u ≡ reads P v
-  pub counts : countsIs m ≡ countsIs n
-  pub size : length u ≡ length v
-  pub rest : drop (wordsNeeded (capacityOf w)) u ≡ drop (wordsNeeded (capacityOf w)) v
-  pub kept : reads P w ≡ none → u ≡ v
-
-pub batches-equal : (P : Policy) (trace : List ℕ) (lent : Counts) (w u v : List ℕ) (a b : Answer) (m n : Counts) → BatchOutcome P trace lent w u a m
-    → BatchOutcome P trace lent w v b n → SameBatch P w u v a b m n
-batches-equal P trace lent w u v a b m n x y =
-    let q = x .is ∙ sym (y .is) in
-    record {
-      answer = ap (λ (d : BatchDone (P .State)). d .answer) q;
-      state = ap (λ (d : BatchDone (P .State)). d .area) q;
-      counts = ap (λ (d : BatchDone (P .State)). d .counts) q;
-      size = x .size ∙ sym (y .size);
-      rest = x .rest ∙ sym (y .rest);
-      kept = λ z. x .refused z ∙ sym (y .refused z);
-    }
 
 pub ruleset laws = (opened, ran-through, refused, needs)

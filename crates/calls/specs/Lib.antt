@@ -3,3 +3,4 @@ pub mod Policy
 pub mod Inner
 pub mod Outer
 pub mod Writing
+pub mod Equal

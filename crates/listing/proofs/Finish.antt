@@ -1,4 +1,4 @@
--- What a listing leaves is what the rules say. In order: records one after the other over a lent list; the outcome; any two outcomes are equal. Assumes nothing.
+-- What a listing leaves is what the rules say. In order: records one after the other over a lent list; the outcome. Assumes nothing.
 use mathlib.Core.Path.{_≡_, refl, sym, ap, _∙_}
 use mathlib.Core.Bool.{Bool, true, false}
 use mathlib.Core.List.{List, [], _∷_, _++_, map}
@@ -16,14 +16,13 @@ use Rattle.area.specs.Area.{capacityOf}
 use Rattle.area.specs.Stored.{Stored, stateIn}
 use Rattle.state_check.specs.Check.{stateTest}
 use Rattle.state_check.proofs.State.{state-writes}
-use Rattle.calls.specs.Policy.{Policy, policyOf, stateOf, reads}
+use Rattle.calls.specs.Policy.{policyOf, stateOf, reads}
 use Rattle.calls.specs.declared.Kind.{Kind}
 use Rattle.calls.proofs.Exact.{exact-of}
 use Rattle.listing.specs.Order.{past}
 use Rattle.listing.specs.Steps.{orderIn, recordAt, recordsIn, accepted, planOf, Stands, StepIs}
-use Rattle.listing.specs.Outcome.{recordIs, recordsAre, listedIs, listingDone, ListingOutcome}
+use Rattle.listing.specs.Outcome.{recordIs, recordsAre, ListingOutcome}
 use Rattle.listing.specs.declared.Record.{Record}
-use Rattle.listing.specs.declared.Listed.{Listed}
 use Rattle.listing.specs.declared.Listed.the-variants as answer
 use Rattle.listing.specs.declared.Plan.{Plan}
 use Rattle.listing.specs.declared.Step.{Step}
@@ -174,22 +173,3 @@ module _ (kind : Kind) (w : List ℕ) (ys : List Record) (p : Plan) (e : p ≡ p
   -- THE OUTCOME
   pub finishes : ListingOutcome (policyOf kind) w ys (over (p .count) (recordsIn kind w) ys) (p .answer)
   finishes = rw plan-is (outcome-by kind w ys (stateTest (policyOf kind .kind) w) (ltb (length ys) (length (orderIn kind (capacityOf w) w))) refl refl)
-
--- ---- ANY TWO OUTCOMES ARE EQUAL
-record-one : (r q : Record) → recordIs r ≡ recordIs q → r ≡ q
-record-one r q e = let a : r .page ≡ q .page = ap (λ (x : rules.Record). x .page) e in let b : r .frame ≡ q .frame = ap (λ (x : rules.Record). x .frame) e in rw (a, b) refl
-
-records-one : (l m : List Record) → recordsAre l ≡ recordsAre m → l ≡ m
-records-one [] [] e = refl
-records-one [] (x ∷ m) e = absurd (let z : _≡_ {A = ℕ} 0 (suc (length (recordsAre m))) = ap length e in let n : ⊥ = omega arith in n)
-records-one (x ∷ l) [] e = absurd (let z : _≡_ {A = ℕ} (suc (length (recordsAre l))) 0 = ap length e in let n : ⊥ = omega arith in n)
-records-one (x ∷ l) (y ∷ m) e = rw (record-one x y (head-one (recordIs x) (recordIs y) (recordsAre l) (recordsAre m) e), records-one l m (ap (drop 1) e)) refl
-  where
-    head-one : (a b : rules.Record) (k n : List rules.Record) → a ∷ k ≡ b ∷ n → a ≡ b
-    head-one a b k n e = ap (λ (o : List rules.Record). getD o 0 a) e
-
-module _ (P : Policy) (w : List ℕ) (lent : List Record) where
-  pub outcomes-equal : (l m : List Record) (a b : Listed) → ListingOutcome P w lent l a → ListingOutcome P w lent m b → (listedIs a ≡ listedIs b) × (l ≡ m)
-  outcomes-equal l m a b x y =
-      let e : listingDone (listedIs a) (reads P w) (recordsAre l) ≡ listingDone (listedIs b) (reads P w) (recordsAre m) = x .is ∙ sym (y .is) in
-      (ap (λ d. d .answer) e, records-one l m (ap (λ d. d .records) e))

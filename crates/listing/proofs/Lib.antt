@@ -5,5 +5,6 @@ pub mod Slots
 pub mod Records
 pub mod Refusing
 pub mod ByRules
+pub mod Equal
 pub mod Laws
 pub mod Finish

@@ -55,7 +55,8 @@ use Rattle.calls.proofs.Kind as K
 use Rattle.calls.proofs.Kind.Laws as K′
 use Rattle.listing.specs.Steps.{planOf}
 use Rattle.listing.specs.Outcome.{blank, blanks, ListingOutcome}
-use Rattle.listing.proofs.Finish.{finishes, outcomes-equal}
+use Rattle.listing.proofs.Finish.{finishes}
+use Rattle.listing.proofs.Equal.{outcomes-equal}
 use Rattle.listing.specs.declared.Record.{Record}
 use Rattle.listing.specs.declared.Listed.{Listed}
 use Rattle.listing.proofs.Record as T
