@@ -1,5 +1,6 @@
 // A batch: a whole trace run on one area (01, "Listings and counts"). The area is checked once, and every operation is an inner call. A
 // record of counts says what this batch did; after a refusal 4 or 5 the operations before it are counted.
+// `run` is the inner form; `tally_up` and `batch` take any words, the one with counts by value, the other with a lent record of them.
 use answers::Gone;
 use answers::Got;
 use answers::Inserted;
@@ -141,8 +142,8 @@ pub fn run(area: &mut [u64], c: usize, kind: Kind, trace: &[u8]) -> Tally
     }
 }
 
-// A batch of any words: the area is checked once, and then the trace is run. On refusal 3 the counts are those lent, unchanged.
-pub fn batch(area: &mut [u64], kind: Kind, trace: &[u8], lent: Counts) -> Tally
+// A batch of any words: the area is checked once, and then the trace is run. On refusal 3 the counts are those handed in.
+pub fn tally_up(area: &mut [u64], kind: Kind, trace: &[u8], lent: Counts) -> Tally
     ensures { λ r. ⌜ BatchOutcome (policyOf kind) (now (trace .entry)) lent (now (area .entry)) (now (area .exit)) (ranIs (r .ran)) (r .counts) ⌝ }
 {
     match opening::open(area, kind) {
@@ -152,4 +153,13 @@ pub fn batch(area: &mut [u64], kind: Kind, trace: &[u8], lent: Counts) -> Tally
             counts: lent,
         },
     }
+}
+
+// The same with a lent record of counts, which is set.
+pub fn batch(area: &mut [u64], kind: Kind, trace: &[u8], counts: &mut Counts) -> Ran
+    ensures { λ r. ⌜ BatchOutcome (policyOf kind) (now (trace .entry)) (now (counts .entry)) (now (area .entry)) (now (area .exit)) (ranIs r) (now (counts .exit)) ⌝ }
+{
+    let t = tally_up(area, kind, trace, *counts);
+    *counts = t.counts;
+    t.ran
 }

@@ -1,5 +1,6 @@
 // CAR's public calls, on a lent area of any words. Nothing is asked of the caller: where the words are no writing of a well-formed CAR
 // state the answer is refusal 3 and nothing changes, and else the inner call is made. A call reads the whole area, to check it.
+// The calls that lend counts or records are by the kind, for both policies: `batch::batch` and `listing::list`.
 use answers::Cleared;
 use answers::Counted;
 use answers::Gone;
@@ -8,12 +9,9 @@ use answers::Held;
 use answers::Inserted;
 use answers::Seen;
 use batch::Counts;
-use batch::Ran;
 use batch::Tally;
 use calls::Kind;
 use fresh::Made;
-use listing::Listed;
-use listing::Record;
 ghost use mathlib.Core.Path.{_≡_};
 ghost use Prim.Native.Nat.{min};
 ghost use Rattle.rules.specs.State.{maxCapacity};
@@ -21,7 +19,6 @@ ghost use Rattle.rules.specs.Calls.{Get, Insert, Remove, Clear, Peek, Contains,
 ghost use Rattle.rules.specs.Public.{wordsNeeded};
 ghost use Rattle.answers.specs.Answers.{gotIs, seenIs, heldIs, insertedIs, goneIs, clearedIs, countedIs};
 ghost use Rattle.calls.specs.Policy.{carPolicy};
-ghost use Rattle.listing.specs.Outcome.{ListingOutcome};
 ghost use Rattle.calls.specs.Outer.{Outcome, Told, Making, madeIs};
 ghost use Rattle.batch.specs.Outcomes.{ranIs, BatchOutcome};
 
@@ -139,22 +136,6 @@ impl CarCore {
     pub fn tally(area: &mut [u64], trace: &[u8], lent: Counts) -> Tally
         ensures { λ r. ⌜ BatchOutcome carPolicy (now (trace .entry)) lent (now (area .entry)) (now (area .exit)) (ranIs (r .ran)) (r .counts) ⌝ }
     {
-        batch::batch(area, Kind::Car, trace, lent)
-    }
-
-    // The same with a lent record of counts, which is set.
-    pub fn batch(area: &mut [u64], trace: &[u8], counts: &mut Counts) -> Ran
-        ensures { λ r. ⌜ BatchOutcome carPolicy (now (trace .entry)) (now (counts .entry)) (now (area .entry)) (now (area .exit)) (ranIs r) (now (counts .exit)) ⌝ }
-    {
-        let t = Self::tally(area, trace, *counts);
-        *counts = t.counts;
-        t.ran
-    }
-
-    // The residents into records, by rising slot; how many, or a refusal.
-    pub fn list(area: &[u64], records: &mut [Record]) -> Listed
-        ensures { λ r. ⌜ ListingOutcome carPolicy (now (area .entry)) (now (records .entry)) (now (records .exit)) r ⌝ }
-    {
-        listing::list(area, Kind::Car, records)
+        batch::tally_up(area, Kind::Car, trace, lent)
     }
 }

@@ -1,1 +1,0 @@
--- The proofs of ARC's public calls. Assumes nothing.

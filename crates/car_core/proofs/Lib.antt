@@ -1,1 +1,0 @@
--- The proofs of CAR's public calls. Assumes nothing.
