@@ -7,7 +7,7 @@ use borrow.Author.Needs.{needs}
 use Rattle.rules.specs.Public.{batched}
 use Rattle.calls.specs.Policy.{Policy, policyOf}
 use Rattle.calls.specs.Inner.{Good}
-use Rattle.calls.specs.declared.Kind.{Kind}
+use Rattle.rules.specs.declared.Kind.{Kind}
 use Rattle.calls.proofs.Exact.{Exact, exact-of}
 use Rattle.calls.proofs.Reading.{reads-none, reads-good}
 use Rattle.opening.specs.Opening.{Opens}

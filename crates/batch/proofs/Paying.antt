@@ -15,8 +15,8 @@ use Rattle.rules.specs.Arc.{Arc}
 use Rattle.rules.specs.Car.{Car, referenced}
 use Rattle.rules.proofs.Demand3.{does-pays}
 use Rattle.calls.specs.Policy.{policyOf}
-use Rattle.calls.specs.declared.Kind.{Kind}
-use Rattle.calls.specs.declared.Kind.the-variants as kinds
+use Rattle.rules.specs.declared.Kind.{Kind}
+use Rattle.rules.specs.declared.Kind.the-variants as kinds
 use Rattle.car.proofs.Replacing.{marks-few}
 
 -- ---- one answer counts at most one of each but steps

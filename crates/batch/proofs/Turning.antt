@@ -27,7 +27,7 @@ use Rattle.answers.specs.Answers.{replyIs}
 use Rattle.answers.specs.declared.Reply.{Reply}
 use Rattle.calls.specs.Policy.{Policy, policyOf, stateOf}
 use Rattle.calls.specs.Inner.{Good, Did}
-use Rattle.calls.specs.declared.Kind.{Kind}
+use Rattle.rules.specs.declared.Kind.{Kind}
 use Rattle.batch.specs.Outcomes.{countsIs, ranIs, Fits, Finishes}
 use Rattle.batch.specs.declared.Counts.{Counts}
 use Rattle.batch.specs.declared.Ran.the-variants as ran

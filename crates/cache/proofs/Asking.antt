@@ -17,7 +17,7 @@ use Rattle.common.specs.declared.Slot.{Slot}
 use Rattle.common.specs.declared.Slot.the-variants.{At, Nobody}
 use Rattle.common.proofs.Finding.{state-c, state-target, arm-at}
 use Rattle.calls.specs.Policy.{policyOf}
-use Rattle.calls.specs.declared.Kind.{Kind}
+use Rattle.rules.specs.declared.Kind.{Kind}
 use Rattle.cache.proofs.Both.{lawful}
 
 module _ (K : Kind) (c : ℕ) (w : List ℕ) where

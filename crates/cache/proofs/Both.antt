@@ -1,7 +1,7 @@
 -- Both policies are lawful. Assumes nothing.
 use Rattle.calls.specs.Policy.{policyOf}
-use Rattle.calls.specs.declared.Kind.{Kind}
-use Rattle.calls.specs.declared.Kind.the-variants as kinds
+use Rattle.rules.specs.declared.Kind.{Kind}
+use Rattle.rules.specs.declared.Kind.the-variants as kinds
 use Rattle.common.proofs.Lawful.{Lawful}
 use Rattle.arc.proofs.Calling.{lawful as arc-lawful}
 use Rattle.car.proofs.Calling.{lawful as car-lawful}

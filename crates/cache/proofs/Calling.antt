@@ -18,7 +18,7 @@ use Rattle.common.specs.declared.Slot.the-variants.{At, Nobody}
 use Rattle.common.proofs.Finding.{state-c, slot-at}
 use Rattle.common.proofs.Staging.{staged}
 use Rattle.calls.specs.Policy.{policyOf, stateOf}
-use Rattle.calls.specs.declared.Kind.{Kind}
+use Rattle.rules.specs.declared.Kind.{Kind}
 use Rattle.cache.specs.Kinds.{stagesOf}
 use Rattle.cache.proofs.Both.{lawful}
 

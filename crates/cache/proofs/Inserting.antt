@@ -25,7 +25,7 @@ use Rattle.common.proofs.Finding.{state-c, found-as}
 use Rattle.common.proofs.Staging.{staged, then-gives}
 use Rattle.common.proofs.Entering.{found-nowhere, found-recent, found-frequent, is-full, not-full, hit-can, can-come}
 use Rattle.calls.specs.Policy.{policyOf, stateOf}
-use Rattle.calls.specs.declared.Kind.{Kind}
+use Rattle.rules.specs.declared.Kind.{Kind}
 use Rattle.cache.specs.Kinds.{stagesOf}
 use Rattle.cache.proofs.Both.{lawful}
 use Rattle.cache.proofs.Calling.{whole}

@@ -18,8 +18,8 @@ use Rattle.store.specs.declared.Found.{Found}
 use Rattle.store.specs.declared.Found.the-variants.{Nowhere}
 use Rattle.store.specs.declared.Out.{Out}
 use Rattle.calls.specs.Policy.{arcPolicy, carPolicy, policyOf, stateOf}
-use Rattle.calls.specs.declared.Kind.{Kind}
-use Rattle.calls.specs.declared.Kind.the-variants as kinds
+use Rattle.rules.specs.declared.Kind.{Kind}
+use Rattle.rules.specs.declared.Kind.the-variants as kinds
 use Rattle.common.specs.Stages.{HasRoom, Stage, WayIs, Chooses}
 use Rattle.common.specs.declared.Victim.{Victim}
 use Rattle.common.specs.declared.Way.the-variants.{Comes}

@@ -18,7 +18,7 @@ use Rattle.common.specs.Stages.{CanDisplace, entered, Gives, Chosen}
 use Rattle.common.proofs.Staging.{then-left, staged}
 use Rattle.common.proofs.Entering.{absent-resident, absent-place}
 use Rattle.calls.specs.Policy.{policyOf, stateOf}
-use Rattle.calls.specs.declared.Kind.{Kind}
+use Rattle.rules.specs.declared.Kind.{Kind}
 use Rattle.cache.specs.Kinds.{stagesOf}
 use Rattle.cache.proofs.Both.{lawful}
 

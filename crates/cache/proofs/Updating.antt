@@ -24,7 +24,7 @@ use Rattle.answers.specs.declared.Inserted.the-variants.{Old as InsertedOld}
 use Rattle.common.specs.Stages.{Gives}
 use Rattle.common.proofs.Staging.{then-left, staged}
 use Rattle.calls.specs.Policy.{policyOf}
-use Rattle.calls.specs.declared.Kind.{Kind}
+use Rattle.rules.specs.declared.Kind.{Kind}
 use Rattle.cache.specs.Kinds.{stagesOf}
 use Rattle.cache.proofs.Both.{lawful}
 

@@ -1,8 +1,8 @@
 -- What differs between the policies, by the kind. Assumes nothing.
 use Rattle.rules.specs.Arc.{trimmed}
 use Rattle.calls.specs.Policy.{policyOf}
-use Rattle.calls.specs.declared.Kind.{Kind}
-use Rattle.calls.specs.declared.Kind.the-variants as kinds
+use Rattle.rules.specs.declared.Kind.{Kind}
+use Rattle.rules.specs.declared.Kind.the-variants as kinds
 use Rattle.common.specs.Stages.{Stages}
 use Rattle.arc.specs.Insert as arc
 use Rattle.car.specs.Insert as car

@@ -15,8 +15,8 @@ use Rattle.area.specs.Stored.{arcOf, Writes}
 use Rattle.state_check.specs.Check.{Words, stateTest}
 use Rattle.state_check.proofs.State.{arc-sound, car-sound, arc-complete, car-complete}
 use Rattle.calls.specs.Policy.{Policy, arcPolicy, carPolicy, policyOf, stateOf}
-use Rattle.calls.specs.declared.Kind.{Kind}
-use Rattle.calls.specs.declared.Kind.the-variants as kinds
+use Rattle.rules.specs.declared.Kind.{Kind}
+use Rattle.rules.specs.declared.Kind.the-variants as kinds
 use Rattle.calls.proofs.Capacity.{arc-keeps, car-keeps}
 use Rattle.calls.proofs.Accepting.{is3, arc-accepts, car-accepts}
 

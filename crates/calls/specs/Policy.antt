@@ -10,8 +10,8 @@ use Rattle.rules.specs.Car.{Car}
 use Rattle.area.specs.Area.{capacityOf}
 use Rattle.area.specs.Stored.{stateIn, arcOf}
 use Rattle.state_check.specs.Check.{stateTest}
-use Rattle.calls.specs.declared.Kind.{Kind}
-use Rattle.calls.specs.declared.Kind.the-variants as kinds
+use Rattle.rules.specs.declared.Kind.{Kind}
+use Rattle.rules.specs.declared.Kind.the-variants as kinds
 
 pub record Policy : Type 1 where
   -- its states, and its view of the state that an area holds

@@ -1,11 +1,7 @@
-// The policies by name. What a call on an area answers and leaves stands in specs/, over the policy.
+// What a call on an area answers and leaves: specs/, over the policy. The code is the number of a kind alone.
+use rules::Kind;
 ghost use mathlib.Core.Path.{_≡_};
 ghost use Rattle.calls.specs.Policy.{policyOf};
-
-pub enum Kind {
-    Arc,
-    Car,
-}
 
 // The kind's number in the header of an area: 1 ARC, 2 CAR.
 pub fn number(kind: Kind) -> u64

@@ -9,9 +9,9 @@
 use answers::Got;
 use answers::Inserted;
 use arc_core::ArcCore;
-use calls::Kind;
 use fresh::Made;
 use opening::Opened;
+use rules::Kind;
 ghost use mathlib.Core.Path.{_≡_};
 ghost use Prim.Native.Nat.{_<_, _≤_};
 ghost use lib.ListN.{length};

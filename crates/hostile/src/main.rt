@@ -7,7 +7,7 @@ use answers::Counted;
 use answers::Gone;
 use answers::Got;
 use answers::Inserted;
-use calls::Kind;
+use rules::Kind;
 ghost use mathlib.Core.Path.{_≡_};
 ghost use Prim.Native.Nat.{_<_};
 ghost use lib.ListN.{length};

@@ -17,7 +17,7 @@ use Rattle.area.specs.Stored.{Stored, stateIn}
 use Rattle.state_check.specs.Check.{stateTest}
 use Rattle.state_check.proofs.State.{state-writes}
 use Rattle.calls.specs.Policy.{policyOf, stateOf, reads}
-use Rattle.calls.specs.declared.Kind.{Kind}
+use Rattle.rules.specs.declared.Kind.{Kind}
 use Rattle.calls.proofs.Exact.{exact-of}
 use Rattle.listing.specs.Order.{past}
 use Rattle.listing.specs.Steps.{orderIn, recordAt, recordsIn, accepted, planOf, Stands, StepIs}

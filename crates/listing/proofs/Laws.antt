@@ -20,8 +20,8 @@ use Rattle.area.specs.Stored.{Stored, stateIn}
 use Rattle.store.specs.Store.{IsSlot, slotsAt, NextIs}
 use Rattle.state_check.proofs.State.{state-writes}
 use Rattle.calls.specs.Policy.{policyOf}
-use Rattle.calls.specs.declared.Kind.{Kind}
-use Rattle.calls.specs.declared.Kind.the-variants as kinds
+use Rattle.rules.specs.declared.Kind.{Kind}
+use Rattle.rules.specs.declared.Kind.the-variants as kinds
 use Rattle.opening.specs.Opening.{Holding, Opens}
 use Rattle.opening.specs.declared.Opened.{Opened}
 use Rattle.opening.specs.declared.Opened.the-variants as opened

@@ -26,8 +26,8 @@ use Rattle.parts.proofs.Reading.{resident-at, slots-read, state-obeys}
 use Rattle.area.specs.Area.{partsOf}
 use Rattle.area.specs.Stored.{Stored, stateIn, plainly, arcOf}
 use Rattle.calls.specs.Policy.{policyOf, stateOf}
-use Rattle.calls.specs.declared.Kind.{Kind}
-use Rattle.calls.specs.declared.Kind.the-variants as kinds
+use Rattle.rules.specs.declared.Kind.{Kind}
+use Rattle.rules.specs.declared.Kind.the-variants as kinds
 use Rattle.listing.specs.Order.{risingFrom, order}
 use Rattle.listing.specs.Steps.{orderIn, recordAt}
 use Rattle.listing.specs.Outcome.{recordIs, recordsAre}

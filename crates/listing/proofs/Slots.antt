@@ -19,8 +19,8 @@ use Rattle.area.specs.Area.{partsOf}
 use Rattle.area.specs.Stored.{Stored, stateIn}
 use Rattle.store.specs.Store.{IsSlot, slotsAt, NextIs}
 use Rattle.store.proofs.Order.{slots-are}
-use Rattle.calls.specs.declared.Kind.{Kind}
-use Rattle.calls.specs.declared.Kind.the-variants as kinds
+use Rattle.rules.specs.declared.Kind.{Kind}
+use Rattle.rules.specs.declared.Kind.the-variants as kinds
 use Rattle.listing.specs.Order.{takenFrom, order, past}
 use Rattle.listing.specs.Steps.{orderIn, StandsIn, Follows}
 use Rattle.listing.proofs.Rising.{rising-first, rising-next, rising-taken}

@@ -5,8 +5,8 @@ use Prim.Native.Nat.{ℕ, zero, suc, _+_}
 use lib.Dec.{ltb}
 use Rattle.rules.specs.State.{Lists}
 use Rattle.rules.specs.Car.{Car, Clocked, slots, taken}
-use Rattle.calls.specs.declared.Kind.{Kind}
-use Rattle.calls.specs.declared.Kind.the-variants as kinds
+use Rattle.rules.specs.declared.Kind.{Kind}
+use Rattle.rules.specs.declared.Kind.the-variants as kinds
 
 -- the taken ones of n slots from k on; the first of them, or k + n
 abbrev pub risingFrom : Lists Clocked → ℕ → ℕ → List ℕ

@@ -11,7 +11,7 @@ use Rattle.area.specs.Area.{capacityOf}
 use Rattle.area.specs.Stored.{Stored, stateIn}
 use Rattle.state_check.specs.Check.{stateTest}
 use Rattle.calls.specs.Policy.{policyOf}
-use Rattle.calls.specs.declared.Kind.{Kind}
+use Rattle.rules.specs.declared.Kind.{Kind}
 use Rattle.listing.specs.Order.{order, past}
 use Rattle.listing.specs.declared.Record.{Record}
 use Rattle.listing.specs.declared.Listed.the-variants.{Count, Room, Refused}

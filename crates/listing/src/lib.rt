@@ -13,8 +13,8 @@ ghost use Rattle.opening.specs.Opening.{Holding};
 ghost use Rattle.listing.specs.Order.{order, past, takenFrom};
 ghost use Rattle.listing.specs.Steps.{Stands, StandsIn, Follows, StepIs, planOf};
 ghost use Rattle.listing.specs.Outcome.{blanks, ListingOutcome};
-use calls::Kind;
 use opening::Opened;
+use rules::Kind;
 
 // A resident as a listing writes it.
 pub struct Record {

@@ -1,6 +1,6 @@
 // The way from any words to an inner call: the state check, and the capacity of the cache that the words hold. Every
 // public call starts here.
-use calls::Kind;
+use rules::Kind;
 ghost use Rattle.calls.specs.Policy.{policyOf};
 ghost use Rattle.opening.specs.Opening.{Opens};
 

@@ -15,7 +15,7 @@ use Rattle.answers.specs.declared.Inserted.{Inserted}
 use Rattle.answers.specs.declared.Reply.the-variants as reply
 use Rattle.calls.specs.Policy.{Policy, policyOf, stateOf}
 use Rattle.calls.specs.Inner.{Good, Did, Says}
-use Rattle.calls.specs.declared.Kind.{Kind}
+use Rattle.rules.specs.declared.Kind.{Kind}
 use Rattle.calls.proofs.Exact.{exact-of}
 
 module _ (P : Policy) (c : ℕ) (w v : List ℕ) (op : Operation) where

@@ -4,7 +4,7 @@
 // The operation is told apart before the kind: in a loop over a trace the compiler then joins this match with that on the operation's code, and
 // with that on the answer. The other way round each of the three was a jump of its own, and a batch took a tenth longer.
 use answers::Reply;
-use calls::Kind;
+use rules::Kind;
 use trace::Operation;
 ghost use Rattle.rules.specs.Batch.{callOf};
 ghost use Rattle.answers.specs.Answers.{replyIs};

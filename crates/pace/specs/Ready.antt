@@ -1,7 +1,7 @@
 -- What the pieces of a run hand on. Assumes nothing.
 use mathlib.Core.List.{List}
 use Prim.Native.Nat.{ℕ}
-use Rattle.calls.specs.declared.Kind.{Kind}
+use Rattle.rules.specs.declared.Kind.{Kind}
 use Rattle.calls.specs.Policy.{policyOf}
 use Rattle.calls.specs.Inner.{Good}
 

@@ -7,11 +7,11 @@
 use batch::Counts;
 use batch::Ran;
 use batch::Tally;
-use calls::Kind;
 use libc::STDERR_FILENO;
 use libc::STDIN_FILENO;
 use libc::STDOUT_FILENO;
 use opening::Opened;
+use rules::Kind;
 ghost use mathlib.Core.Path.{_≡_};
 ghost use Prim.Native.Nat.{_≤_, _<_};
 ghost use lib.ListN.{length};

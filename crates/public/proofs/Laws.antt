@@ -6,7 +6,7 @@ use borrow.Author.Needs.{needs}
 use Rattle.fresh.specs.Fresh.{New}
 use Rattle.fresh.specs.declared.Made.{Made}
 use Rattle.calls.specs.Policy.{policyOf}
-use Rattle.calls.specs.declared.Kind.{Kind}
+use Rattle.rules.specs.declared.Kind.{Kind}
 use Rattle.calls.specs.Outer.{Making, madeIs}
 use Rattle.calls.proofs.Exact.{exact-of}
 use Rattle.calls.proofs.Passing.{making}

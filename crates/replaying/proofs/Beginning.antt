@@ -10,7 +10,7 @@ use borrow.Author.Needs.{needs}
 use Rattle.rules.specs.Calls.{Stopped}
 use Rattle.rules.specs.Program.{textOf}
 use Rattle.lines.specs.Lines.{LineRoom, laid, Put}
-use Rattle.calls.specs.declared.Kind.{Kind}
+use Rattle.rules.specs.declared.Kind.{Kind}
 use Rattle.replaying.specs.declared.Replay.the-variants.{Start, Running, Ended}
 use Rattle.replaying.specs.declared.Header.{Header}
 use Rattle.replaying.specs.declared.Header.the-variants.{Cache, Stop}

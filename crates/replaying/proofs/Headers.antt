@@ -29,8 +29,8 @@ use Rattle.rules.specs.Program.{program, textOf, maxReplayed}
 use Rattle.fresh.specs.Fresh.{answerOf, Empty, New}
 use Rattle.fresh.specs.declared.Made as declared
 use Rattle.fresh.specs.declared.Made.the-variants as made
-use Rattle.calls.specs.declared.Kind.{Kind}
-use Rattle.calls.specs.declared.Kind.the-variants.{Arc, Car}
+use Rattle.rules.specs.declared.Kind.{Kind}
+use Rattle.rules.specs.declared.Kind.the-variants.{Arc, Car}
 use Rattle.calls.specs.Policy.{Policy, policyOf}
 use Rattle.calls.proofs.Exact.{exact-of}
 use Rattle.replaying.specs.declared.Header.{Header}
@@ -46,20 +46,16 @@ abbrev pub headed : Header → List ℕ → List ℕ
 headed (Stop r o) bs = textOf (Stopped r o)
 headed (Cache k c used) bs = toldAfter 0 (batch (policyOf k .does) used (drop used bs) (policyOf k .new c))
 
-abbrev asRule : Kind → rules.Kind
-asRule Arc = rules.arc
-asRule Car = rules.car
-
-replay-is : (k : Kind) (c o : ℕ) (bs : List ℕ) → rules.replay (asRule k) c o bs ≡ toldAfter 0 (batch (policyOf k .does) o bs (policyOf k .new c))
+replay-is : (k : Kind) (c o : ℕ) (bs : List ℕ) → rules.replay k c o bs ≡ toldAfter 0 (batch (policyOf k .does) o bs (policyOf k .new c))
 unfolding rules.replay
 replay-is Arc c o bs = told-first _
 replay-is Car c o bs = told-first _
 
-capacity-is : (k : Kind) (f : Frame) (b : ℕ) (bs : List ℕ) → rules.withCapacity (asRule k) f bs ≡ headed (sized k f) (b ∷ bs)
+capacity-is : (k : Kind) (f : Frame) (b : ℕ) (bs : List ℕ) → rules.withCapacity k f bs ≡ headed (sized k f) (b ∷ bs)
 unfolding rules.withCapacity rules.sized
 capacity-is k (Value c used) b bs = by (ltb maxReplayed c)
   where
-    by : (x : Bool) → rules.sized x (asRule k) c used bs ≡ headed (cond x (Stop 1 1) (Cache k c (1 + used))) (b ∷ bs)
+    by : (x : Bool) → rules.sized x k c used bs ≡ headed (cond x (Stop 1 1) (Cache k c (1 + used))) (b ∷ bs)
     by true = refl
     by false =
         let q : suc used ≡ 1 + used = omega arith in

@@ -34,7 +34,7 @@ use Rattle.rules.specs.Program.{textOf}
 use Rattle.answers.specs.Answers.{replyIs}
 use Rattle.answers.specs.declared.Reply.{Reply}
 use Rattle.lines.specs.Lines.{lineRoom, LineRoom, Put}
-use Rattle.calls.specs.declared.Kind.{Kind}
+use Rattle.rules.specs.declared.Kind.{Kind}
 use Rattle.calls.specs.Policy.{Policy, policyOf, stateOf}
 use Rattle.calls.specs.Inner.{Good, Did}
 use Rattle.replaying.specs.declared.Replay.the-variants.{Running, Ended}

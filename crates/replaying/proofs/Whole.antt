@@ -7,7 +7,7 @@ use native.Mathlib.Omega.{arith}
 use lib.ListN.{length}
 use borrow.Author.Needs.{needs}
 use Rattle.lines.specs.Lines.{lineRoom}
-use Rattle.calls.specs.declared.Kind.{Kind}
+use Rattle.rules.specs.declared.Kind.{Kind}
 use Rattle.replaying.specs.declared.Replay.{Replay}
 use Rattle.replaying.specs.declared.Replay.the-variants.{Start, Running, Ended}
 use Rattle.replaying.specs.Pending.{pending, Ready}

@@ -10,8 +10,8 @@ use Rattle.numbers.specs.declared.Frame.the-variants.{Value, Faulty}
 use Rattle.numbers.specs.Reading.{frameOf}
 use Rattle.trace.specs.Reading.{faultNumber, faultPlace}
 use Rattle.rules.specs.Program.{maxReplayed}
-use Rattle.calls.specs.declared.Kind.{Kind}
-use Rattle.calls.specs.declared.Kind.the-variants.{Arc, Car}
+use Rattle.rules.specs.declared.Kind.{Kind}
+use Rattle.rules.specs.declared.Kind.the-variants.{Arc, Car}
 use Rattle.calls.specs.Policy.{policyOf, stateOf}
 use Rattle.calls.specs.Inner.{Good}
 use Rattle.replaying.specs.declared.Header.{Header}

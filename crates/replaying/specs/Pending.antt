@@ -8,7 +8,7 @@ use Rattle.rules.specs.Calls.{Answer, Finished, Stopped}
 use Rattle.rules.specs.Batch.{Batched, batch}
 use Rattle.rules.specs.Program.{textOf, textsOf, program, maxReplayed}
 use Rattle.rules.specs.Public.{wordsNeeded}
-use Rattle.calls.specs.declared.Kind.{Kind}
+use Rattle.rules.specs.declared.Kind.{Kind}
 use Rattle.calls.specs.Policy.{policyOf, stateOf}
 use Rattle.calls.specs.Inner.{Good}
 use Rattle.replaying.specs.declared.Replay.{Replay}

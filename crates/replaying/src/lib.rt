@@ -1,7 +1,7 @@
 // The replay program (01, "Trace bytes") on an input that comes in pieces: what it has told and has still to tell, and the code that tells
 // it. The caller reads, calls `feed` and writes; nothing here grows with the input.
-use calls::Kind;
 use numbers::Frame;
+use rules::Kind;
 use trace::Cursor;
 use trace::Found;
 ghost use mathlib.Core.Path.{_≡_};

@@ -13,6 +13,8 @@ use Rattle.numbers.specs.declared.Frame.{Frame}
 use Rattle.numbers.specs.declared.Frame.the-variants.{Value as FrameValue, Faulty as FrameFaulty}
 use Rattle.numbers.specs.Reading.{readFrom, frameOf}
 use Rattle.trace.specs.Reading.{faultNumber, faultPlace}
+use Rattle.rules.specs.declared.Kind.{Kind}
+use Rattle.rules.specs.declared.Kind.the-variants as kinds
 use Rattle.rules.specs.State.{first, second}
 use Rattle.rules.specs.Calls.{Place, ghost, nowhere, Victim, nobody, out, Answer, Hit, Miss, New, Old, None, Gone, Absent, Cleared, See, No, Holds, Number, Made, Finished, Stopped, Refused}
 use Rattle.rules.specs.Batch.{Batched, runFrom, batch, answerOf}
@@ -71,13 +73,9 @@ unfolding textsOf
 told b = textsOf (b .answers) ++ textOf (answerOf b)
 
 -- ---- the kind byte, and c
-pub data Kind : Type 0 where
-  arc : Kind
-  car : Kind
-
 -- "a kind byte (1 ARC, 2 CAR)"
 abbrev pub kindOf : ℕ → Option Kind
-kindOf b = cond (eqb b 1) (some arc) (cond (eqb b 2) (some car) none)
+kindOf b = cond (eqb b 1) (some kinds.Arc) (cond (eqb b 2) (some kinds.Car) none)
 
 -- "(the program: 0 to 256)"
 abbrev pub maxReplayed : ℕ
@@ -86,8 +84,8 @@ maxReplayed = 256
 -- the operations, on a fresh cache; the first has the offset o ("O counted from byte 0 of the input")
 unfoldable pub replay : Kind → ℕ → ℕ → List ℕ → List ℕ
 unfolding told runFrom Arc.does Arc.new Car.does Car.new
-replay arc c o ops = told (batch Arc.does o ops (Arc.new c))
-replay car c o ops = told (batch Car.does o ops (Car.new c))
+replay kinds.Arc c o ops = told (batch Arc.does o ops (Arc.new c))
+replay kinds.Car c o ops = told (batch Car.does o ops (Car.new c))
 
 -- "1 CAPACITY .. (program: c > 256)", "for a bad c, 1"
 unfoldable pub sized : Bool → Kind → ℕ → ℕ → List ℕ → List ℕ

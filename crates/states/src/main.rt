@@ -4,9 +4,9 @@
 use answers::Inserted;
 use answers::Reply;
 use batch::Counts;
-use calls::Kind;
 use listing::Record;
 use numbers::Frame;
+use rules::Kind;
 use trace::Cursor;
 use trace::Found;
 use trace::Operation;
@@ -450,7 +450,7 @@ fn put_others(evictions: u64, steps: u64, removals: u64) {
 
 // The whole trace again by the library's batch: its counts, and the digest of the state it leaves.
 fn run_batch(area: &mut [u64], kind: Kind, trace: &[u8]) {
-    let t = batch::batch(area, kind, trace, none());
+    let t = batch::tally_up(area, kind, trace, none());
     let counts = t.counts;
     put_counts(counts);
     let digest = digest_of(area, kind, 0, false);

@@ -12,8 +12,8 @@ use Rattle.area.specs.Area.{capacityOf}
 use Rattle.state_check.specs.Check.{stateTest}
 use Rattle.state_check.proofs.State.{writes-read}
 use Rattle.calls.specs.Policy.{Policy, policyOf, stateOf}
-use Rattle.calls.specs.declared.Kind.{Kind}
-use Rattle.calls.specs.declared.Kind.the-variants as kinds
+use Rattle.rules.specs.declared.Kind.{Kind}
+use Rattle.rules.specs.declared.Kind.the-variants as kinds
 use Rattle.calls.proofs.Exact.{Exact, exact-of}
 use Rattle.calls.proofs.Reading.{reads-some, reads-none}
 use Rattle.writings.specs.Writings.{Written, HasWriting}

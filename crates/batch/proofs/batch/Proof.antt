@@ -47,9 +47,9 @@ use denote.Triple.Walked.{goes-none-slice, goes-gave-slice, Walks, ends-at, walk
 use denote.Triple.Clauses.{ensured, lasts}
 use denote.Exit.{yes}
 use Rattle.calls.specs.Policy.{policyOf}
-use Rattle.calls.specs.declared.Kind.{Kind}
-use Rattle.calls.proofs.Kind as K
-use Rattle.calls.proofs.Kind.Laws as K′
+use Rattle.rules.specs.declared.Kind.{Kind}
+use Rattle.rules.proofs.Kind as K
+use Rattle.rules.proofs.Kind.Laws as K′
 use Rattle.batch.specs.Outcomes.{ranIs, BatchOutcome}
 use Rattle.batch.specs.declared.Counts.{Counts}
 use Rattle.batch.specs.declared.Tally.{Tally}

@@ -50,9 +50,9 @@ use denote.Triple.Table.{entered, cited}
 use denote.Triple.Clauses.{ensured, lasts}
 use denote.Triple.Walked.{says, Stays, stay-none, stay-none-slice, stay-slice, walkOf, goes-none, goes-none-slice, goes-slice, Walks, ends-at, walked, walk-meets}
 use denote.Exit.{yes}
-use Rattle.calls.specs.declared.Kind.{Kind}
-use Rattle.calls.proofs.Kind as K
-use Rattle.calls.proofs.Kind.Laws as K′
+use Rattle.rules.specs.declared.Kind.{Kind}
+use Rattle.rules.proofs.Kind as K
+use Rattle.rules.proofs.Kind.Laws as K′
 use Rattle.listing.specs.Steps.{recordsIn, planOf, Stands, StepIs}
 use Rattle.listing.specs.declared.Record.{Record}
 use Rattle.listing.specs.declared.Plan.{Plan}

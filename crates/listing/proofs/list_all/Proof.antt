@@ -50,9 +50,9 @@ use denote.Triple.Walked.{says, Stays, stay-none, stay-none-slice, walkOf, goes-
 use denote.Triple.Clauses.{ensured, lasts}
 use denote.Exit.{yes}
 use Rattle.calls.specs.Policy.{policyOf}
-use Rattle.calls.specs.declared.Kind.{Kind}
-use Rattle.calls.proofs.Kind as K
-use Rattle.calls.proofs.Kind.Laws as K′
+use Rattle.rules.specs.declared.Kind.{Kind}
+use Rattle.rules.proofs.Kind as K
+use Rattle.rules.proofs.Kind.Laws as K′
 use Rattle.listing.specs.Steps.{planOf}
 use Rattle.listing.specs.Outcome.{blank, blanks, ListingOutcome}
 use Rattle.listing.proofs.Finish.{finishes}
