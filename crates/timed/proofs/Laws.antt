@@ -1,12 +1,15 @@
 -- The answers are the definitions'. Assumes nothing.
 use mathlib.Core.Path.{_≡_, refl, sym, ap, subst, _∙_}
-use mathlib.Core.Bool.{Bool, true, false}
+use mathlib.Core.Bool.{Bool, true, false, cond}
 use mathlib.Core.List.{List}
 use Prim.Native.Nat.{ℕ, _<_}
 use lib.ListN.{length}
+use lib.Dec.{ltb}
 use borrow.Author.Needs.{needs}
 use borrow.Author.Tests.{lt-ltb}
+use Rattle.rules.specs.State.{maxCapacity}
 use Rattle.rules.specs.Calls.{Answer, Get}
+use Rattle.rules.specs.Public.{wordsNeeded}
 use Rattle.answers.specs.Answers.{gotIs}
 use Rattle.answers.specs.declared.Got as got
 use Rattle.answers.specs.declared.Got.the-variants.{Hit, Miss, Refused as NotGot}
@@ -15,7 +18,7 @@ use Rattle.calls.specs.Outer.{Outcome}
 use Rattle.fresh.specs.declared.Made as declared
 use Rattle.fresh.specs.declared.Made.the-variants.{Made, Refused}
 use Rattle.fresh.specs.Fresh.{New, answerOf}
-use Rattle.timed.specs.Numbers.{passed, refusal, gotAt}
+use Rattle.timed.specs.Numbers.{passed, madeAt, gotAt}
 
 pub yes : (b t : Bool) → b ≡ true → b ≡ t → 1 ≡ passed t
 yes b t y e = ap passed (sym y ∙ e)
@@ -23,11 +26,31 @@ yes b t y e = ap passed (sym y ∙ e)
 pub no : (b t : Bool) → b ≡ false → b ≡ t → 0 ≡ passed t
 no b t n e = ap passed (sym n ∙ e)
 
-pub made : (kind c : ℕ) (w v : List ℕ) (r : declared.Made) → r ≡ Made → New kind c w v r → 0 ≡ refusal (answerOf c (length w))
-made kind c w v r e n = ap refusal (sym e ∙ n .answer)
+-- ---- `new`
+-- the number that tells an answer of `new`
+abbrev refusal : declared.Made → ℕ
+refusal Made = 0
+refusal (Refused n) = n
 
-pub refused : (kind c n : ℕ) (w v : List ℕ) (r : declared.Made) → r ≡ Refused n → New kind c w v r → n ≡ refusal (answerOf c (length w))
-refused kind c n w v r e new = ap refusal (sym e ∙ new .answer)
+by-tests : (large few : Bool)
+    → madeAt (refusal (cond large (Refused 1) (cond few (Refused 2) Made))) ≡ cond large (Refused 1) (cond few (Refused 2) Made)
+by-tests true few = refl
+by-tests false true = refl
+by-tests false false = refl
+
+-- no refusal that `new` gives has the number 0
+told-new : (kind c n : ℕ) (w v : List ℕ) (r : declared.Made) → refusal r ≡ n → New kind c w v r → New kind c w v (madeAt n)
+unfolding answerOf
+told-new kind c n w v r e new =
+    let back = by-tests (ltb maxCapacity c) (ltb (length w) (wordsNeeded c)) in
+    let is : r ≡ madeAt n = sym (ap madeAt (sym e) ∙ ap (λ y. madeAt (refusal y)) (new .answer) ∙ back ∙ sym (new .answer)) in
+    subst (λ (y : declared.Made). New kind c w v y) is new
+
+pub made : (kind c : ℕ) (w v : List ℕ) (r : declared.Made) → r ≡ Made → New kind c w v r → New kind c w v (madeAt 0)
+made kind c w v r e n = told-new kind c 0 w v r (ap refusal e) n
+
+pub refused : (kind c n : ℕ) (w v : List ℕ) (r : declared.Made) → r ≡ Refused n → New kind c w v r → New kind c w v (madeAt n)
+refused kind c n w v r e new = told-new kind c n w v r (ap refusal e) new
 
 -- ---- a get
 told : (x : ℕ) (w v : List ℕ) (a b : Answer) → a ≡ b → Outcome arcPolicy (Get x) w v a → Outcome arcPolicy (Get x) w v b

@@ -11,10 +11,9 @@ use Rattle.fresh.specs.declared.Made.the-variants.{Made, Refused}
 abbrev pub passed : Bool → ℕ
 passed b = cond b 1 0
 
--- what `new` answers: 0, or the number of the refusal
-abbrev pub refusal : declared.Made → ℕ
-refusal Made = 0
-refusal (Refused n) = n
+-- what `new` answers, by its number: 0 for made, else the refusal of that number
+abbrev pub madeAt : ℕ → declared.Made
+madeAt n = cond (eqb n 0) Made (Refused n)
 
 -- what a get answers, by its number: a frame, 2^32 for a miss, or 2^32 and the number of a refusal; no answer has two numbers
 abbrev pub gotAt : ℕ → Answer

@@ -3,13 +3,12 @@ use answers::Got;
 use arc_core::ArcCore;
 use fresh::Made;
 ghost use mathlib.Core.Path.{_≡_};
-ghost use lib.ListN.{length};
 ghost use Rattle.rules.specs.Calls.{Get};
 ghost use Rattle.calls.specs.Policy.{arcPolicy};
 ghost use Rattle.calls.specs.Outer.{Outcome};
-ghost use Rattle.fresh.specs.Fresh.{answerOf};
+ghost use Rattle.fresh.specs.Fresh.{New};
 ghost use Rattle.state_check.specs.Check.{stateTest};
-ghost use Rattle.timed.specs.Numbers.{passed, refusal, gotAt};
+ghost use Rattle.timed.specs.Numbers.{passed, madeAt, gotAt};
 
 // 1 where the words are a writing of a well-formed state of that kind, and else 0.
 #[no_mangle]
@@ -22,10 +21,10 @@ pub extern "C" fn timed_check(area: &[u64], kind: u64) -> u64
     0
 }
 
-// 0 where an empty cache is made, and else the number of the refusal.
+// 0 where an empty cache is made, and else the number of the refusal, which leaves the words as they were.
 #[no_mangle]
 pub extern "C" fn timed_new(area: &mut [u64], kind: u64, c: u64) -> u64
-    ensures { λ r. ⌜ r ≡ refusal (answerOf c (length (now (area .entry)))) ⌝ }
+    ensures { λ r. ⌜ New kind c (now (area .entry)) (now (area .exit)) (madeAt r) ⌝ }
 {
     match fresh::new(area, kind, c) {
         Made::Made => 0,
