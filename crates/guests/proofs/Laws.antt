@@ -12,6 +12,7 @@ use borrow.Author.Tests.{ltb-true, ltb-false, eqb-true, eqb-false, not-true, not
 use Rattle.rules.specs.State.{resident}
 use Rattle.rules.specs.Calls.{Get, Insert, Answer, Refused, Done}
 use Rattle.rules.specs.Arc as arc
+use Rattle.rules.specs.Public.{wordsNeeded}
 use Rattle.rules.specs.Arc.{Arc, does}
 use Rattle.area.specs.Area.{capacityOf}
 use Rattle.area.specs.Part.{splice}
@@ -30,7 +31,7 @@ use Rattle.opening.specs.Opening.{Opens}
 use Rattle.opening.specs.declared.Opened.{Opened}
 use Rattle.opening.specs.declared.Opened.the-variants as opened
 use Rattle.opening.proofs.Public.{opened-good}
-use Rattle.guests.specs.Guests.{Ready, held, hits, faulted, servedIs, Faulted, own, AllReady, FirstBad, Checks, Tells, Only, Started, Alone, Stepped, stateAfter, hitsAfter, Ran, Even, Fits}
+use Rattle.guests.specs.Guests.{Ready, held, spare, hits, faulted, servedIs, Faulted, own, AllReady, FirstBad, Checks, Tells, Only, Started, Alone, Stepped, stateAfter, hitsAfter, Ran, Even, Fits}
 use Rattle.guests.specs.declared.Checked.{Checked}
 use Rattle.guests.specs.declared.Checked.the-variants as checked
 use Rattle.guests.specs.declared.Served.{Served}
@@ -45,6 +46,10 @@ ready-at c w g = subst (λ (n : ℕ). Good arcPolicy n w) (sym (g .stored .capac
 
 held-at : (c : ℕ) (w : List ℕ) → capacityOf w ≡ c → held w ≡ stateOf arcPolicy c w
 held-at c w e = ap (λ (n : ℕ). stateOf arcPolicy n w) e
+
+-- a call on a cache of the capacity c leaves the spare words
+spare-kept : (c : ℕ) (w v : List ℕ) → capacityOf w ≡ c → capacityOf v ≡ c → drop (wordsNeeded c) v ≡ drop (wordsNeeded c) w → spare v ≡ spare w
+spare-kept c w v e d r = rw (d, e) r
 
 never-refuses : (x : ℕ) (s : Arc) → does (Get x) s .answer ≡ Refused 3 → ⊥
 unfolding does arc.got
@@ -70,6 +75,7 @@ module _ (x f c : ℕ) (w v : List ℕ) (g : Got) (e : c ≡ capacityOf w) (d : 
         ready = ready-at c v (d .good);
         state = left ∙ ap (λ (t : Done Arc). t .state) (sym n);
         answer = sym a ∙ ap (λ (t : Done Arc). t .answer) (sym n);
+        spares = spare-kept c w v (sym e) (d .good .stored .capacity) (d .rest);
         size = d .size;
       }
 
@@ -82,6 +88,7 @@ module _ (x f c : ℕ) (w v : List ℕ) (g : Got) (e : c ≡ capacityOf w) (d : 
         ready = ready-at c u (i .good);
         state = held-at c u (i .good .stored .capacity) ∙ i .state ∙ ap (λ (t : Done Arc). t .state) m;
         answer = i .answer ∙ ap (λ (t : Done Arc). t .answer) m;
+        spares = spare-kept c w u (sym e) (i .good .stored .capacity) (i .rest ∙ d .rest);
         size = i .size ∙ d .size;
       }
 
@@ -147,6 +154,7 @@ stepped g x f n w v s all few d e =
       states = λ i h. state-by i h (eqb g i) refl;
       hits = rw (lt-ltb g 6 few) (e ∙ ap hits (d .served .answer));
       few = rw e (served-few s);
+      spares = λ i h. spare-by i h (eqb g i) refl;
       size = d .only .size;
       rest = d .only .rest;
     }
@@ -159,6 +167,10 @@ stepped g x f n w v s all few d e =
     state-by i h true q = rw (sym (eqb-true g i q)) (d .served .state)
     state-by i h false q = ap held (d .only .others i h (λ z. eqb-false g i q (sym z)))
 
+    spare-by : (i : ℕ) → i < 6 → (b : Bool) → eqb g i ≡ b → spare (own i v) ≡ spare (own i w)
+    spare-by i h true q = rw (sym (eqb-true g i q)) (d .served .spares)
+    spare-by i h false q = ap spare (d .only .others i h (λ z. eqb-false g i q (sym z)))
+
 pub skipped : (g x f : ℕ) (w : List ℕ) → AllReady w → 6 ≤ g → Stepped g x f w w 0
 skipped g x f w all many =
     record {
@@ -166,6 +178,7 @@ skipped g x f w all many =
       states = λ i h. rw (ne-eqb g i (λ e. omega arith)) refl;
       hits = rw (le-ltb g 6 many) refl;
       few = omega arith;
+      spares = λ i h. refl;
       size = refl;
       rest = refl;
     }
@@ -179,13 +192,14 @@ pub record RunTo (gs ps fs w₀ w : List ℕ) (n i : ℕ) : Type 0 where
   pub ready : AllReady w
   pub states : (j : ℕ) → j < 6 → held (own j w) ≡ stateAfter gs ps fs w₀ i j
   pub hits : n ≡ hitsAfter gs ps fs w₀ i
+  pub spares : (j : ℕ) → j < 6 → spare (own j w) ≡ spare (own j w₀)
   pub size : length w ≡ length w₀
   pub rest : drop 9600 w ≡ drop 9600 w₀
 
 pub begins : (gs ps fs w : List ℕ) → length gs < 2 ^ 63 → AllReady w → Even gs ps fs → RunTo gs ps fs w w 0 0
 unfolding stateAfter hitsAfter
 begins gs ps fs w short all even =
-    record { short = short; even = even; inside = omega arith; few = omega arith; ready = all; states = λ j h. refl; hits = refl; size = refl; rest = refl }
+    record { short = short; even = even; inside = omega arith; few = omega arith; ready = all; states = λ j h. refl; hits = refl; spares = λ j h. refl; size = refl; rest = refl }
 
 module _ (gs ps fs w₀ w : List ℕ) (n i : ℕ) (r : RunTo gs ps fs w₀ w n i) where
   pub again : (v : List ℕ) (m : ℕ) → i < length gs → Stepped (getD gs i 0) (getD ps i 0) (getD fs i 0) w v m → RunTo gs ps fs w₀ v (n + m) (i + 1)
@@ -201,6 +215,7 @@ module _ (gs ps fs w₀ w : List ℕ) (n i : ℕ) (r : RunTo gs ps fs w₀ w n i
         ready = d .ready;
         states = λ j h. d .states j h ∙ ap (λ (s : Arc). cond (eqb (getD gs i 0) j) (faulted (getD ps i 0) (getD fs i 0) s .state) s) (r .states j h);
         hits = ap (λ (k : ℕ). k + m) (r .hits) ∙ ap (λ (k : ℕ). hitsAfter gs ps fs w₀ i + k) (d .hits ∙ by (ltb (getD gs i 0) 6) refl);
+        spares = λ j h. d .spares j h ∙ r .spares j h;
         size = d .size ∙ r .size;
         rest = d .rest ∙ r .rest;
       })
@@ -217,6 +232,7 @@ module _ (gs ps fs w₀ w : List ℕ) (n i : ℕ) (r : RunTo gs ps fs w₀ w n i
         ready = r .ready;
         states = λ j h. r .states j h ∙ ap (λ (k : ℕ). stateAfter gs ps fs w₀ k j) e;
         hits = r .hits ∙ ap (hitsAfter gs ps fs w₀) e;
+        spares = r .spares;
         size = r .size;
         rest = r .rest;
       }

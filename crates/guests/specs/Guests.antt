@@ -10,6 +10,7 @@ use Rattle.rules.specs.Calls as rules
 use Rattle.rules.specs.Calls.{Get, Insert, Answer, Done}
 use Rattle.rules.specs.Counts.{counted}
 use Rattle.rules.specs.Arc.{Arc, does}
+use Rattle.rules.specs.Public.{wordsNeeded}
 use Rattle.area.specs.Area.{capacityOf}
 use Rattle.area.specs.Part.{part}
 use Rattle.answers.specs.Answers.{insertedIs}
@@ -32,6 +33,10 @@ Ready w = Good arcPolicy (capacityOf w) w
 abbrev pub held : List ℕ → Arc
 held w = stateOf arcPolicy (capacityOf w) w
 
+-- its words past those that its cache needs
+abbrev pub spare : List ℕ → List ℕ
+spare w = drop (wordsNeeded (capacityOf w)) w
+
 -- how many hits an answer tells of: one or none
 abbrev pub hits : Answer → ℕ
 hits a = counted a .getHits
@@ -44,11 +49,12 @@ abbrev pub servedIs : Served → Answer
 servedIs (served.Resident f) = rules.Hit f
 servedIs (served.Filled r) = insertedIs r
 
--- THE CONTRACT of a page fault on the area w: answer and state are the rules'
+-- THE CONTRACT of a page fault on the area w: answer and state are the rules', and the spare words stay
 pub record Faulted (x f : ℕ) (w v : List ℕ) (a : Answer) : Type 0 where
   pub ready : Ready v
   pub state : held v ≡ faulted x f (held w) .state
   pub answer : a ≡ faulted x f (held w) .answer
+  pub spares : spare v ≡ spare w
   pub size : length v ≡ length w
 
 -- ---- six areas of 1,600 words, one after the other: the words of the guest i
@@ -96,6 +102,7 @@ pub record Stepped (g x f : ℕ) (w v : List ℕ) (n : ℕ) : Type 0 where
   pub states : (i : ℕ) → i < 6 → held (own i v) ≡ cond (eqb g i) (faulted x f (held (own i w)) .state) (held (own i w))
   pub hits : n ≡ cond (ltb g 6) (hits (faulted x f (held (own g w)) .answer)) 0
   pub few : n ≤ 1
+  pub spares : (i : ℕ) → i < 6 → spare (own i v) ≡ spare (own i w)
   pub size : length v ≡ length w
   pub rest : drop 9600 v ≡ drop 9600 w
 
@@ -120,6 +127,7 @@ module _ (gs ps fs w : List ℕ) where
     pub ready : AllReady v
     pub states : (i : ℕ) → i < 6 → held (own i v) ≡ stateAfter (length gs) i
     pub hits : n ≡ hitsAfter (length gs)
+    pub spares : (i : ℕ) → i < 6 → spare (own i v) ≡ spare (own i w)
     pub size : length v ≡ length w
     pub rest : drop 9600 v ≡ drop 9600 w
 
