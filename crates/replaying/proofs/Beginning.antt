@@ -49,6 +49,7 @@ waits w bytes out last need b e h =
       inside = omega arith;
       ready = b .words;
       moved = omega arith;
+      rest = refl;
       told = λ fits rest f. refl;
       progress = λ k s. absurd (omega (arith, e));
     }
@@ -58,7 +59,7 @@ pub makes-sizes : (w out bytes : List ℕ) (h : Header) (k : Kind) (c used : ℕ
 makes-sizes w out bytes h k c used b e d = record { small = allowed bytes h k c used e d .small; words = b .words }
 
 pub begins : (w v bytes : List ℕ) (last : Bool) (need : ℕ) (h : Header) (k : Kind) (c used : ℕ) → need ≡ needed last → need ≤ length bytes
-    → h ≡ headerOf bytes → h ≡ Cache k c used → Fresh k c v → Feeds Start w bytes last (Running k c used 0) v used []
+    → h ≡ headerOf bytes → h ≡ Cache k c used → Fresh k c w v → Feeds Start w bytes last (Running k c used 0) v used []
 unfolding pending
 begins w v bytes last need h k c used n there e d f =
     let a = allowed bytes h k c used e d in
@@ -66,6 +67,7 @@ begins w v bytes last need h k c used n there e d f =
       inside = a .there;
       ready = record { good = f .good; few = omega arith };
       moved = omega arith;
+      rest = f .rest;
       told = λ fits rest end.
           program-headed (bytes ++ rest)
           ∙ ap (λ (x : Header). headed x (bytes ++ rest)) (header-given last bytes rest (omega (arith, n)) end ∙ sym e ∙ d)
@@ -82,6 +84,7 @@ refuses w bytes before after last need h r o p n there e d s =
       inside = omega arith;
       ready = tt;
       moved = omega arith;
+      rest = refl;
       told = λ fits rest end.
           program-headed (bytes ++ rest)
           ∙ ap (λ (x : Header). headed x (bytes ++ rest)) (header-given last bytes rest (omega (arith, n)) end ∙ sym e ∙ d)

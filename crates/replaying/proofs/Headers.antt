@@ -169,7 +169,7 @@ header-unknown [] n p q = absurd (n refl)
 header-unknown (b ∷ bs) n p q = simp (ne-eqb b 1 p, ne-eqb b 2 q)
 
 -- ---- an empty cache
-fresh-by : (k : Kind) (c : ℕ) (w v : List ℕ) → c ≤ maxReplayed → Empty (policyOf k .kind) c w v → Fresh k c v
+fresh-by : (k : Kind) (c : ℕ) (w v : List ℕ) → c ≤ maxReplayed → Empty (policyOf k .kind) c w v → Fresh k c w v
 unfolding new
 fresh-by k c w v small e =
     let r = e .writes in
@@ -178,9 +178,10 @@ fresh-by k c w v small e =
     record {
       good = record { stored = r .stored; kind = r .kind; well = subst (P .WellFormed) (sym q) (exact-of k .new-well c (omega arith)) };
       new = q;
+      rest = e .rest;
     }
 
-pub fresh-made : (k : Kind) (c number : ℕ) (w v : List ℕ) (r : declared.Made) → Sizes c w → number ≡ policyOf k .kind → New number c w v r → Fresh k c v
+pub fresh-made : (k : Kind) (c number : ℕ) (w v : List ℕ) (r : declared.Made) → Sizes c w → number ≡ policyOf k .kind → New number c w v r → Fresh k c w v
 unfolding answerOf
 fresh-made k c number w v r s e n =
     let small : c ≤ 1024 = omega (arith, s .small) in

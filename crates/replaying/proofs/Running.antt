@@ -31,6 +31,7 @@ use Rattle.trace.proofs.Prefix.{operation-prefix}
 use Rattle.rules.specs.Calls.{Call, Done, Answer, Finished, Stopped}
 use Rattle.rules.specs.Batch.{callOf, batch}
 use Rattle.rules.specs.Program.{textOf}
+use Rattle.rules.specs.Public.{wordsNeeded}
 use Rattle.answers.specs.Answers.{replyIs}
 use Rattle.answers.specs.declared.Reply.{Reply}
 use Rattle.lines.specs.Lines.{lineRoom, LineRoom, Put}
@@ -153,6 +154,7 @@ pub record RunTo (k : Kind) (c o m : ℕ) (w bytes : List ℕ) (last : Bool) (be
   pub good : Good (policyOf k) c v
   pub filled : put ≤ length out
   pub words : length v ≡ length w
+  pub past : drop (wordsNeeded c) v ≡ drop (wordsNeeded c) w
   pub size : length out ≡ length before
   pub none : at ≡ 0 → put ≡ 0
   pub told : (rest : List ℕ) → (last ≡ true → rest ≡ [])
@@ -170,6 +172,7 @@ starts k c o m w bytes last out need r e =
       good = r .going .good;
       filled = omega arith;
       words = refl;
+      past = refl;
       size = refl;
       none = λ z. refl;
       told = λ rest end. rw (add-zero o) refl;
@@ -202,6 +205,7 @@ module _ (k : Kind) (c o m : ℕ) (w bytes : List ℕ) (last : Bool) (before : L
         inside = i .inside;
         ready = record { good = i .good; few = i .few };
         moved = omega arith;
+        rest = i .past;
         told = λ fits rest end. i .told rest end;
         progress = λ e s. h e;
       }
@@ -268,6 +272,7 @@ module _ (k : Kind) (c o m : ℕ) (w bytes : List ℕ) (last : Bool) (before : L
             good = d .good;
             filled = t .1;
             words = d .size ∙ i .words;
+            past = d .rest ∙ i .past;
             size = same ∙ i .size;
             none = λ e. absurd (omega (arith, more-past));
             told = λ rest end.
@@ -289,6 +294,7 @@ module _ (k : Kind) (c o m : ℕ) (w bytes : List ℕ) (last : Bool) (before : L
           inside = i .inside;
           ready = tt;
           moved = omega arith;
+          rest = i .past;
           told = λ fits rest end.
               i .told rest end
               ∙ ap (λ (y : List ℕ). take put out ++ y) (found End is rest end)
@@ -310,6 +316,7 @@ module _ (k : Kind) (c o m : ℕ) (w bytes : List ℕ) (last : Bool) (before : L
           inside = i .inside;
           ready = tt;
           moved = omega arith;
+          rest = i .past;
           told = λ fits rest end.
               let f = found (Refused r q) is rest end in
               let z : o + at + (q - at) ≡ o + q = omega (arith, f .past) in

@@ -22,6 +22,7 @@ uncountable k c o n w bytes last h =
       inside = omega arith;
       ready = tt;
       moved = omega arith;
+      rest = refl;
       told = λ fits rest end. absurd (omega arith);
       progress = λ _ s. absurd (s refl);
     }
@@ -50,6 +51,7 @@ nothing-more w bytes last =
       inside = omega arith;
       ready = tt;
       moved = omega arith;
+      rest = refl;
       told = λ fits rest end. refl;
       progress = λ _ s. absurd (s refl);
     }

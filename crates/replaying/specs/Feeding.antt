@@ -5,12 +5,18 @@ use mathlib.Core.List.{List, [], _∷_, _++_}
 use Prim.Native.Nat.{ℕ, _+_, _^_, _<_, _≤_}
 use lib.ListN.{length, drop}
 use Rattle.replaying.specs.declared.Replay.{Replay}
-use Rattle.replaying.specs.declared.Replay.the-variants.{Ended}
-use Rattle.replaying.specs.Pending.{pending, Ready, offsetOf}
+use Rattle.replaying.specs.declared.Replay.the-variants.{Start, Running, Ended}
+use Rattle.replaying.specs.Pending.{pending, Ready, cacheWords, offsetOf}
 
 -- an operation has at most sixteen bytes: with so many at hand, or with all that are left of the input, one can be run
 abbrev pub needed : Bool → ℕ
 needed last = cond last 0 16
+
+-- the words that a feed from r to s may change: those of the cache that it goes on with, or of the one that it makes
+abbrev pub changeable : Replay → Replay → ℕ
+changeable Start s = cacheWords s
+changeable (Running k c o n) s = cacheWords (Running k c o n)
+changeable Ended s = 0
 
 -- THE CONTRACT of a feed. The replay r with the area w was given bytes of the input, after which no more follow where `last` is true; it is s with the area v
 -- then, has used up some of the bytes, and has written.
@@ -18,6 +24,8 @@ pub record Feeds (r : Replay) (w bytes : List ℕ) (last : Bool) (s : Replay) (v
   pub inside : used ≤ length bytes
   pub ready : Ready s v
   pub moved : offsetOf s ≤ offsetOf r + used
+  -- the words past those of the cache are as they were
+  pub rest : drop (changeable r s) v ≡ drop (changeable r s) w
   -- whatever follows the bytes, what was written is the start of what was still to be told, and what is still to be told is the rest of it; so for all of an
   -- input of fewer than 2^64 bytes, which is how far offsets count
   pub told : offsetOf r + length bytes < 2 ^ 64 → (rest : List ℕ) → (last ≡ true → rest ≡ [])

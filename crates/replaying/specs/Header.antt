@@ -4,12 +4,13 @@ use mathlib.Core.Bool.{cond}
 use mathlib.Core.List.{List, [], _∷_}
 use Prim.Native.Nat.{ℕ, _+_, _≤_}
 use lib.Dec.{ltb, eqb}
-use lib.ListN.{length}
+use lib.ListN.{length, drop}
 use Rattle.numbers.specs.declared.Frame.{Frame}
 use Rattle.numbers.specs.declared.Frame.the-variants.{Value, Faulty}
 use Rattle.numbers.specs.Reading.{frameOf}
 use Rattle.trace.specs.Reading.{faultNumber, faultPlace}
 use Rattle.rules.specs.Program.{maxReplayed}
+use Rattle.rules.specs.Public.{wordsNeeded}
 use Rattle.rules.specs.declared.Kind.{Kind}
 use Rattle.rules.specs.declared.Kind.the-variants.{Arc, Car}
 use Rattle.calls.specs.Policy.{policyOf, stateOf}
@@ -33,7 +34,8 @@ pub record Sizes (c : ℕ) (w : List ℕ) : Type 0 where
   pub small : c ≤ maxReplayed
   pub words : areaWords ≤ length w
 
--- an empty cache of a kind and a capacity
-pub record Fresh (k : Kind) (c : ℕ) (w : List ℕ) : Type 0 where
-  pub good : Good (policyOf k) c w
-  pub new : stateOf (policyOf k) c w ≡ policyOf k .new c
+-- an empty cache of a kind and a capacity; the words past those that it needs are as they were
+pub record Fresh (k : Kind) (c : ℕ) (w v : List ℕ) : Type 0 where
+  pub good : Good (policyOf k) c v
+  pub new : stateOf (policyOf k) c v ≡ policyOf k .new c
+  pub rest : drop (wordsNeeded c) v ≡ drop (wordsNeeded c) w

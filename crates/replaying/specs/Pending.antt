@@ -44,6 +44,12 @@ Ready Start w = areaWords ≤ length w
 Ready (Running k c o n) w = Going k c o n w
 Ready Ended w = Unit {0}
 
+-- the words of the cache that a replay has: of none, before it is made and after the end
+abbrev pub cacheWords : Replay → ℕ
+cacheWords Start = 0
+cacheWords (Running k c o n) = wordsNeeded c
+cacheWords Ended = 0
+
 -- the offset of the next byte, which counts until the replay has ended
 abbrev pub offsetOf : Replay → ℕ
 offsetOf Start = 0

@@ -103,7 +103,7 @@ fn read_header(bytes: &[u8]) -> Header
 // An empty cache.
 fn make(area: &mut [u64], kind: Kind, c: usize)
     requires { ⌜ Sizes c (now area) ⌝ }
-    ensures { λ _. ⌜ Fresh kind c (now (area .exit)) ⌝ }
+    ensures { λ _. ⌜ Fresh kind c (now (area .entry)) (now (area .exit)) ⌝ }
 {
     let number = calls::number(kind);
     fresh::new(area, number, c as u64);
