@@ -4,4 +4,5 @@ pub mod Beginning
 pub mod Headers
 pub mod Pieces
 pub mod Running
+pub mod Turning
 pub mod Whole

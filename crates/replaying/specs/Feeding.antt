@@ -3,6 +3,7 @@ use mathlib.Core.Path.{_≡_}
 use mathlib.Core.Bool.{Bool, true, cond}
 use mathlib.Core.List.{List, [], _∷_, _++_}
 use Prim.Native.Nat.{ℕ, _+_, _^_, _<_, _≤_}
+use lib.Dec.{ltb}
 use lib.ListN.{length, drop}
 use Rattle.replaying.specs.declared.Replay.{Replay}
 use Rattle.replaying.specs.declared.Replay.the-variants.{Start, Running, Ended}
@@ -38,6 +39,13 @@ pub record Wrote (written : ℕ) (before after : List ℕ) : Type 0 where
   pub there : written ≤ length after
   pub size : length after ≡ length before
 
+-- THE CONTRACT of a turn with bytes of the input in a buffer of so many: they are fed, as the last where they do not fill the buffer, and those that are not
+-- used up are kept
+pub record Turns (size : ℕ) (r : Replay) (w bytes : List ℕ) (s : Replay) (v kept written : List ℕ) : Type 0 where
+  pub used : ℕ
+  pub feeds : Feeds r w bytes (ltb (length bytes) size) s v used written
+  pub left : kept ≡ drop used bytes
+
 -- one feed of a run: the piece that was read behind the bytes that were kept, whether it is the last, and what the feed made of them
 pub record Turn : Type 0 where
   pub piece : List ℕ
@@ -65,3 +73,20 @@ pub record TurnIs (r : Replay) (w kept : List ℕ) (t : Turn) (rest : List ℕ) 
 abbrev pub Run : Replay → List ℕ → List ℕ → List Turn → List ℕ → Type 0
 Run r w kept [] unread = r ≡ Ended
 Run r w kept (t ∷ ts) unread = TurnIs r w kept t (piecesOf ts ++ unread) × Run (t .replay) (t .area) (drop (t .used) (kept ++ t .piece)) ts unread
+
+-- ---- a program that reads into a buffer of so many bytes, behind those that it kept, feeds it and writes
+-- one turn: the piece that came was fed behind the bytes kept, as the last where the buffer was not full
+pub record LinkIs (size : ℕ) (r : Replay) (w kept : List ℕ) (t : Turn) : Type 0 where
+  pub feeds : Feeds r w (kept ++ t .piece) (t .last) (t .replay) (t .area) (t .used) (t .written)
+  pub last : t .last ≡ ltb (length (kept ++ t .piece)) size
+
+-- turns one after the other, from the replay r with the area w to s with v, each with the bytes that the one before left
+abbrev pub Chain : ℕ → Replay → List ℕ → List ℕ → List Turn → Replay → List ℕ → List ℕ → Type 0
+Chain size r w kept [] s v left = (s ≡ r) × ((v ≡ w) × (left ≡ kept))
+Chain size r w kept (t ∷ ts) s v left = LinkIs size r w kept t × Chain size (t .replay) (t .area) (drop (t .used) (kept ++ t .piece)) ts s v left
+
+-- WHAT READING IS ASSUMED TO DO, which no contract can say: it fills the buffer as long as there is more of the input, of which `unread` is left after the turns
+abbrev pub Fills : ℕ → List ℕ → List Turn → List ℕ → Type 0
+Fills size kept [] unread = Unit {0}
+Fills size kept (t ∷ ts) unread =
+    (length (kept ++ t .piece) < size → piecesOf ts ++ unread ≡ []) × Fills size (drop (t .used) (kept ++ t .piece)) ts unread

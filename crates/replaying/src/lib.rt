@@ -11,7 +11,7 @@ ghost use Rattle.numbers.specs.Reading.{frameOf};
 ghost use Rattle.lines.specs.Lines.{lineRoom};
 ghost use Rattle.replaying.specs.Pending.{areaWords, Ready};
 ghost use Rattle.replaying.specs.Header.{sized, headerOf, Sizes, Fresh};
-ghost use Rattle.replaying.specs.Feeding.{needed, Feeds, Wrote};
+ghost use Rattle.replaying.specs.Feeding.{needed, Feeds, Wrote, Turns};
 ghost use Rattle.replaying.specs.Asked.{Begins, Goes, Runs};
 
 // Where a replay stands: nothing was read; operations are run on a cache of a kind and of a capacity, of which `done` are done and the
@@ -31,6 +31,14 @@ pub enum Replay {
 pub struct Fed {
     pub replay: Replay,
     pub used: usize,
+    pub written: usize,
+}
+
+// What a turn gives back: where the replay stands then, how many bytes of the input wait at the front of the buffer, and how many bytes of lines there
+// are to write.
+pub struct Turned {
+    pub replay: Replay,
+    pub kept: usize,
     pub written: usize,
 }
 
@@ -275,6 +283,28 @@ pub fn feed(r: Replay, area: &mut [u64], bytes: &[u8], last: bool, out: &mut [u8
             used: 0,
             written: 0,
         },
+    }
+}
+
+// One turn with a buffer whose first n bytes are the next of the input: they are fed, and those not used up go to the front. Where they do not fill the
+// buffer, the input has ended: the caller reads as many as there is room for.
+pub fn turn(r: Replay, area: &mut [u64], bytes: &mut [u8], n: usize, out: &mut [u8]) -> Turned
+    requires { ⌜ Ready r (now area) ⌝ }
+    requires { ⌜ n ≤ length (now bytes) ⌝ }
+    requires { ⌜ lineRoom ≤ length (now out) ⌝ }
+    ensures { λ t. ⌜ Turns (length (now (bytes .entry))) r (now (area .entry)) (take n (now (bytes .entry))) (t .replay) (now (area .exit)) (take (t .kept) (now (bytes .exit))) (take (t .written) (now (out .exit))) ⌝ }
+    ensures { λ t. ⌜ Wrote (t .written) (now (out .entry)) (now (out .exit)) ⌝ }
+    ensures { λ t. ⌜ t .kept ≤ length (now (bytes .exit)) ⌝ }
+{
+    let last = n < bytes.len();
+    let fed = feed(r, area, &bytes[..n], last, out);
+    let used = fed.used;
+    let kept = pieces::keep(bytes, used, n);
+    let replay = fed.replay;
+    Turned {
+        replay,
+        kept,
+        written: fed.written,
     }
 }
 
