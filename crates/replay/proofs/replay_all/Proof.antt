@@ -1,10 +1,11 @@
--- `replay::replay_all` meets its contract. The loop's invariant: the replay can go on. The measure is the turns that are left. Assumes nothing.
+-- `replay::replay_all` meets its contract. The loop's invariant: the replay can go on, and turns one after the other led to where it stands. The measure is the
+-- turns that are left. Assumes nothing.
 use Rattle.replay.proofs.Laws.{Going, laws}
 use Rattle.replay.proofs.replay_all.Statement.{statement}
 use Rattle.replay.proofs.replay_all.Tie as tie
 
 abbrev Inv-loop : tie.InvT-loop
-Inv-loop area₀ bytes₀ out₀ s₀ turns₀ area bytes out s turns = Going area₀ bytes₀ out₀ s area bytes out
+Inv-loop area₀ bytes₀ out₀ s₀ turns₀ area bytes out s turns = Going area₀ bytes₀ out₀ s area bytes out turns
 
 abbrev μ-loop : tie.MeasureT-loop
 μ-loop area₀ bytes₀ out₀ s₀ turns₀ area bytes out s turns = turns
