@@ -10,7 +10,7 @@ use lib.Seq.{length-take-le, take-at, take-take}
 use borrow.Author.Needs.{needs}
 use borrow.Author.Tests.{not-true}
 use Rattle.lines.specs.Lines.{lineRoom}
-use Rattle.calls.specs.declared.Kind.{Kind}
+use Rattle.rules.specs.declared.Kind.{Kind}
 use Rattle.replaying.specs.declared.Replay.{Replay}
 use Rattle.replaying.specs.declared.Replay.the-variants.{Start, Running, Ended}
 use Rattle.replaying.specs.Pending.{areaWords, Ready}
