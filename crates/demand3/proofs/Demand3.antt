@@ -213,7 +213,7 @@ demand-3-victim w v s x f n i y h o = demand-3-insert w v s x f n i y (victim-fu
 pub demand-3-one-out : (w v : List ℕ) (s : Car) (x f p g n : ℕ) (i : Place)
     → WritingOf carPolicy w s
     → Outcome carPolicy (Insert x f) w v (New (out p g i) n)
-    → PutsOut s x p v
+    → PutsOut s x f p g v
 demand-3-one-out w v s x f p g n i y o =
     let t = does (Insert x f) s .state in
     let q = outcome-is carPolicy (Insert x f) w v (New (out p g i) n) s o (reads-complete carPolicy car-exact w s y) in
@@ -234,7 +234,7 @@ call-replaces k s w =
       one-out =
           λ x f p g n i e q.
           let a : does (Insert x f) s .answer ≡ New (out p g i) n = rw (sym e) q in
-          subst (λ (j : Call). OneOut s (does j s .state) x p) (sym e) (insert-one-out x f p g n i s w a);
+          subst (λ (j : Call). OneOut s (does j s .state) x f p g) (sym e) (insert-one-out x f p g n i s w a);
     }
 
 each-replaces : (ks : List Call) (s : Car) → Obeys s → EachReplaces ks s

@@ -30,12 +30,13 @@ pub record Replaces (s : Car) (x : ℕ) (victim : Victim) (n : ℕ) : Type 0 whe
   pub steps-are : n ≡ steps (roomFor (placeOf x (s .lists)) x s)
   pub ends : Ends s (roomFor (placeOf x (s .lists)) x s)
 
--- ".. puts out exactly one page", of the whole insert: the area v that it leaves is a writing of a state in which of
--- the residents of s the page p alone is missing, and x alone has come
-pub record PutsOut (s : Car) (x p : ℕ) (v : List ℕ) : Type 0 where
+-- ".. puts out exactly one page", of the whole insert of the page x and the frame f: the area v that it leaves is a
+-- writing of a state in which of the residents of s the page p alone is missing, which was in the frame g, and x alone
+-- has come, in f
+pub record PutsOut (s : Car) (x f p g : ℕ) (v : List ℕ) : Type 0 where
   pub state : Car
   pub writing : Words v → WritingOf carPolicy v state
-  pub one-out : OneOut s state x p
+  pub one-out : OneOut s state x f p g
 
 -- the same of the call k on the state s, where it is an insert whose answer names a victim
 pub record ReplacesAt (k : Call) (s : Car) : Type 0 where
@@ -46,7 +47,7 @@ pub record ReplacesAt (k : Call) (s : Car) : Type 0 where
   pub one-out : (x f p g n : ℕ) (i : Place)
       → k ≡ Insert x f
       → does k s .answer ≡ New (out p g i) n
-      → OneOut s (does k s .state) x p
+      → OneOut s (does k s .state) x f p g
 
 -- and of each of the calls ks, one after the other from the state s on
 abbrev pub EachReplaces : List Call → Car → Type 0

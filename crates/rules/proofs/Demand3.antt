@@ -1,7 +1,7 @@
 -- Demand 3 for CAR: the sum over any calls (`demand-3`, `demand-3-batch`); each replacement (`demand-3-replacement`),
 -- that of an insert too (`room-ends`); and an insert that replaces (`insert-one-out`). What they say stands in
 -- specs/Demand3. Assumes nothing.
-use mathlib.Core.Path.{_≡_, refl, sym, subst, ap, _∙_}
+use mathlib.Core.Path.{_≡_, refl, sym, subst, ap}
 use mathlib.Core.List.{List, [], _∷_, _++_, map}
 use mathlib.Core.Bool.{Bool, true, false, cond, false≢true}
 use mathlib.Core.Option.{Option, some, none}
@@ -9,20 +9,21 @@ use Prim.Native.Nat.{ℕ, _+_, _-_, _≤_}
 use native.Mathlib.Omega.{arith}
 use lib.Dec.{ltb, eqb}
 use lib.ListN.{getD}
-use borrow.Author.Tests.{eqb-false, ne-eqb, lt-ltb, le-ltb, leb-true, le-leb}
+use borrow.Author.Tests.{eqb-true, eqb-false, ne-eqb, leb-true, le-leb}
 use Rattle.rules.specs.Lists.{one, times}
 use Rattle.rules.specs.State.{entry, withFrame, pages, found, Side, list, residents, resident, full, Sound}
-use Rattle.rules.specs.Calls.{Call, Get, Insert, Remove, Clear, Ask, Question, Peek, Contains, Len, Capacity, Target, T1Len, T2Len, B1Len, B2Len, Listing, Place, ghost, nowhere, out, New, Number, Refused, Done, done, seenFrame, isThere, asked, Replaced, steps, replaceIf, run}
+use Rattle.rules.specs.Calls.{Call, Get, Insert, Remove, Clear, Ask, Question, Peek, Contains, Len, Capacity, Target, T1Len, T2Len, B1Len, B2Len, Listing, Place, ghost, nowhere, out, New, See, No, Number, Refused, Done, done, seenFrame, asked, Replaced, steps, replaceIf, run}
 use Rattle.rules.specs.Stages.{placeOf, ghostHit, goesTo, isB2}
 use Rattle.rules.specs.Counts.{counted, tally, hits, outs}
 use Rattle.trace.specs.Reading.{readFrom}
 use Rattle.rules.specs.Batch.{callOf, batch}
 use Rattle.rules.specs.Car.{Resident, clocked, withBit, Car, car, referenced, Obeys, WellFormed, new, touched, got, replace, missed, roomFor, admitted, insertAt, inserted, removed, does}
 use Rattle.rules.proofs.Slots.{changed-marks, marks-without, marks-append, referenced-set}
-use Rattle.rules.specs.Demand3.{Paid, held, Ends, isIn, OneOut}
-use Rattle.rules.proofs.ListLaws.{by-test, one-self, one-other, times-pages-append, snoc-plus}
+use Rattle.rules.specs.Demand3.{Paid, held, both, inFrame, heldIn, Ends, peeked, OneOut}
+use Rattle.rules.proofs.ListLaws.{by-test, eqb-self, one-self, one-other, one-le}
+use Rattle.rules.proofs.ListLaws.{times-pages-append, found-times, snoc-plus}
 use Rattle.rules.proofs.StateLaws.{no-resident}
-use Rattle.rules.proofs.Sweep.{held-set, replace-swept}
+use Rattle.rules.proofs.Sweep.{held-set, heldIn-set, in-append, replace-swept}
 use Rattle.rules.proofs.RunLaws.{batch-runs}
 use Rattle.rules.proofs.Trail.{turns-once}
 use Rattle.rules.proofs.ClosureCar.{does-obeys}
@@ -125,11 +126,18 @@ demand-3-batch o bs s w =
 pub demand-3-replacement : (hit : Bool) (s : Car) → 1 ≤ s .lists .c → residents (s .lists) ≡ s .lists .c → Ends s (replace hit s)
 demand-3-replacement hit s k h =
     let p = replace-swept hit s (omega arith) in
-    record { within = omega (arith, p .paid); turns = turns-once hit s; single = p .single; others = p .others }
+    record {
+      within = omega (arith, p .paid);
+      turns = turns-once hit s;
+      single = p .single;
+      others = p .others;
+      frames = p .frames;
+    }
 
 -- ---- the replacement of an insert: a ghost hit leaves the clocks as they are
 ends-hit : (i : Side) (x : ℕ) (s : Car) (r : Replaced Car) → Ends (car (ghostHit i x (s .lists)) (s .free)) r → Ends s r
-ends-hit i x s r e = record { within = e .within; turns = e .turns; single = e .single; others = e .others }
+ends-hit i x s r e =
+    record { within = e .within; turns = e .turns; single = e .single; others = e .others; frames = e .frames }
 
 ends-if : (b hit : Bool) (s : Car)
     → b ≡ true
@@ -165,23 +173,73 @@ room-full (ghost i) x s q =
 room-full nowhere x s q = leb-true (s .lists .c) (residents (s .lists)) (if-full (full (s .lists)) false s q)
 
 -- ---- AN INSERT THAT REPLACES puts out exactly one page
--- a page is resident where it is held
-there-held : (y : ℕ) (l : List Resident) → isThere (found y l) ≡ ltb 0 (times y (pages l))
-there-held y [] = refl
-there-held y (e ∷ l) =
-    let n = times y (pages l) in
-    let ih = there-held y l in
-    by-test (λ b. isThere (cond b (some e) (found y l)) ≡ ltb 0 (one b + n)) (eqb y (e .page))
-    (λ _. sym (lt-ltb 0 (1 + n) (omega arith)))
-    (λ _. let z : n ≡ 0 + n = omega arith in ih ∙ ap (ltb 0) z)
+-- a page is seen in a frame where it is held in it, and not seen where it is not held
+one-true : (a b : ℕ) → 1 ≤ one (eqb a b) → a ≡ b
+one-true a b =
+    by-test (λ c. eqb a b ≡ c → 1 ≤ one c → a ≡ b) (eqb a b)
+    (λ _ e q. eqb-true a b e)
+    (λ _ e q. absurd (omega arith))
+    refl
 
-in-held : (y : ℕ) (s : Car) → isIn y s ≡ ltb 0 (held y (s .lists))
-in-held y s =
-    let l = s .lists .T1 in
-    let m = s .lists .T2 in
-    there-held y (l ++ m) ∙ ap (ltb 0) (times-pages-append y l m)
+in-le : (y h : ℕ) (l : List Resident) → inFrame y h l ≤ times y (pages l)
+in-le y h [] = omega arith
+in-le y h (e ∷ l) =
+    let ih = in-le y h l in
+    by-test (λ b. cond b (one (eqb h (e .frame))) 0 + inFrame y h l ≤ one b + times y (pages l)) (eqb y (e .page))
+    (λ _. omega (arith, one-le (eqb h (e .frame))))
+    (λ _. omega arith)
 
--- the page that enters is held once more
+see-in : (y h : ℕ) (l : List Resident) → times y (pages l) ≤ 1 → 1 ≤ inFrame y h l → seenFrame (found y l) ≡ See h
+see-in y h [] k q = absurd (omega arith)
+see-in y h (e ∷ l) k q = go (eqb y (e .page)) k q (see-in y h l)
+  where
+    go : (b : Bool)
+        → one b + times y (pages l) ≤ 1
+        → 1 ≤ cond b (one (eqb h (e .frame))) 0 + inFrame y h l
+        → (times y (pages l) ≤ 1 → 1 ≤ inFrame y h l → seenFrame (found y l) ≡ See h)
+        → seenFrame (cond b (some e) (found y l)) ≡ See h
+    go true k q ih = ap See (sym (one-true h (e .frame) (omega (arith, in-le y h l))))
+    go false k q ih = ih (omega arith) (omega arith)
+
+found-in : (y : ℕ) (l : List Resident) (e : Resident) → found y l ≡ some e → 1 ≤ inFrame y (e .frame) l
+found-in y [] e q = let z : _≡_ {A = ℕ} 0 1 = cc in absurd (omega arith)
+found-in y (a ∷ l) e q = go (eqb y (a .page)) q (found-in y l e)
+  where
+    go : (b : Bool)
+        → cond b (some a) (found y l) ≡ some e
+        → (found y l ≡ some e → 1 ≤ inFrame y (e .frame) l)
+        → 1 ≤ cond b (one (eqb (e .frame) (a .frame))) 0 + inFrame y (e .frame) l
+    go true k ih = let z : a ≡ e = cc in rw z (omega (arith, one-self (e .frame)))
+    go false k ih = omega (arith, ih k)
+
+not-in : (y : ℕ) (l : List Resident) → times y (pages l) ≡ 0 → seenFrame (found y l) ≡ No
+not-in y l q = go (found y l) refl
+  where
+    go : (o : Option Resident) → found y l ≡ o → seenFrame o ≡ No
+    go none r = refl
+    go (some e) r = absurd (omega (arith, found-times y l e r))
+
+-- the same of a state
+module _ (y : ℕ) (s : Car) where
+  held-append : held y (s .lists) ≡ times y (pages (s .lists .T1 ++ s .lists .T2))
+  held-append = sym (times-pages-append y (s .lists .T1) (s .lists .T2))
+
+  see-held : (h : ℕ) → held y (s .lists) ≤ 1 → 1 ≤ heldIn y h (s .lists) → peeked y s ≡ See h
+  see-held h k q =
+      let a = held-append in
+      let b = in-append y h (s .lists .T1) (s .lists .T2) in
+      see-in y h (s .lists .T1 ++ s .lists .T2) (omega arith) (omega arith)
+
+  not-held : held y (s .lists) ≡ 0 → peeked y s ≡ No
+  not-held q = let a = held-append in not-in y (s .lists .T1 ++ s .lists .T2) (omega arith)
+
+  held-found : (e : Resident) → resident y (s .lists) ≡ some e → 1 ≤ heldIn y (e .frame) (s .lists)
+  held-found e q =
+      let a = found-in y (s .lists .T1 ++ s .lists .T2) e q in
+      let b = in-append y (e .frame) (s .lists .T1) (s .lists .T2) in
+      omega arith
+
+-- the page that enters is held once more, in its frame
 admit-held : (y : ℕ) (i : Side) (x f : ℕ) (s : Car)
     → held y (admitted i x f s .lists) ≡ held y (s .lists) + one (eqb y x)
 unfolding admitted
@@ -190,48 +248,80 @@ admit-held y i x f s =
     let e = entry x f (clocked (getD (s .free) 0 0) false) in
     omega (arith, held-set y i (list i l ++ e ∷ []) l, snoc-plus (list i l) e .more y)
 
--- from how often each page is held before the replacement, between, and after the entry
-exchanged : (s r t : Car) (x p : ℕ)
-    → Sound (s .lists)
-    → resident x (s .lists) ≡ none
-    → residents (s .lists) ≡ s .lists .c
-    → residents (t .lists) ≡ s .lists .c
-    → ((y : ℕ) → held y (s .lists) ≡ held y (r .lists) + one (eqb y p))
-    → ((y : ℕ) → held y (t .lists) ≡ held y (r .lists) + one (eqb y x))
-    → OneOut s t x p
-exchanged s r t x p w miss full-before full-after before after =
-    let none-x : held x (s .lists) ≡ 0 = no-resident (s .lists) x miss in
-    let was : held p (s .lists) ≡ held p (r .lists) + 1 = omega (arith, before p, one-self p) in
-    let apart : (p ≡ x → ⊥) = λ q.
-    let z : held p (s .lists) ≡ held x (s .lists) = ap (λ y. held y (s .lists)) q in
-    let n : ⊥ = omega arith in
-    n in
-    let out-p : held p (t .lists) ≤ 0 = omega (arith, after p, one-other p x (ne-eqb p x apart), w .distinct p) in
-    record {
-      was-full = full-before;
-      is-full = full-after;
-      was-in = in-held p s ∙ lt-ltb 0 (held p (s .lists)) (omega arith);
-      is-out = in-held p t ∙ le-ltb 0 (held p (t .lists)) out-p;
-      was-out = ap isThere miss;
-      is-in = in-held x t ∙ lt-ltb 0 (held x (t .lists)) (omega (arith, after x, one-self x));
-      others =
-          λ y a b.
+admit-in : (y h : ℕ) (i : Side) (x f : ℕ) (s : Car)
+    → heldIn y h (admitted i x f s .lists) ≡ heldIn y h (s .lists) + both y h x f
+unfolding admitted
+admit-in y h i x f s =
+    let l = s .lists in
+    let e = entry x f (clocked (getD (s .free) 0 0) false) in
+    omega (arith, heldIn-set y h i (list i l ++ e ∷ []) l, in-append y h (list i l) (e ∷ []))
+
+both-self : (y h : ℕ) → both y h y h ≡ 1
+both-self y h = rw (eqb-self y) (one-self h)
+
+both-other : (y h p g : ℕ) → eqb y p ≡ false → both y h p g ≡ 0
+both-other y h p g q = rw q refl
+
+-- from how often each page is held before the replacement (s), between (r), and after the entry (t)
+module _ (s r t : Car) (x f p g : ℕ) where
+  record Exchange : Type 0 where
+    sound : Sound (s .lists)
+    after-sound : Sound (t .lists)
+    miss : resident x (s .lists) ≡ none
+    full-before : residents (s .lists) ≡ s .lists .c
+    full-after : residents (t .lists) ≡ s .lists .c
+    before : (y : ℕ) → held y (s .lists) ≡ held y (r .lists) + one (eqb y p)
+    after : (y : ℕ) → held y (t .lists) ≡ held y (r .lists) + one (eqb y x)
+    before-in : (y h : ℕ) → heldIn y h (s .lists) ≡ heldIn y h (r .lists) + both y h p g
+    after-in : (y h : ℕ) → heldIn y h (t .lists) ≡ heldIn y h (r .lists) + both y h x f
+
+  exchanged : Exchange → OneOut s t x f p g
+  exchanged c =
+      let none-x : held x (s .lists) ≡ 0 = no-resident (s .lists) x (c .miss) in
+      let was : held p (s .lists) ≡ held p (r .lists) + 1 = omega (arith, c .before p, one-self p) in
+      let apart : (p ≡ x → ⊥) = λ q.
+      let z : held p (s .lists) ≡ held x (s .lists) = ap (λ y. held y (s .lists)) q in
+      let n : ⊥ = omega arith in
+      n in
+      record {
+        was-full = c .full-before;
+        is-full = c .full-after;
+        was-in = see-held p s g (omega (arith, c .sound .distinct p)) (omega (arith, c .before-in p g, both-self p g));
+        is-out = not-held p t (omega (arith, c .after p, one-other p x (ne-eqb p x apart), c .sound .distinct p));
+        was-out = ap seenFrame (c .miss);
+        is-in =
+            see-held x t f (omega (arith, c .after-sound .distinct x)) (omega (arith, c .after-in x f, both-self x f));
+        others = λ y a b. kept y a b (resident y (s .lists)) refl;
+      }
+    where
+      kept : (y : ℕ)
+          → (y ≡ p → ⊥)
+          → (y ≡ x → ⊥)
+          → (o : Option Resident)
+          → resident y (s .lists) ≡ o
+          → peeked y t ≡ seenFrame o
+      kept y a b none q =
           let p-not = one-other y p (ne-eqb y p a) in
           let x-not = one-other y x (ne-eqb y x b) in
-          let same : held y (t .lists) ≡ held y (s .lists) = omega (arith, before y, after y) in
-          in-held y t ∙ (ap (ltb 0) same ∙ sym (in-held y s));
-    }
+          not-held y t (omega (arith, c .before y, c .after y, no-resident (s .lists) y q))
+      kept y a b (some e) q =
+          let p-not = both-other y (e .frame) p g (ne-eqb y p a) in
+          let x-not = both-other y (e .frame) x f (ne-eqb y x b) in
+          let there = held-found y s e q in
+          see-held y t (e .frame) (omega (arith, c .after-sound .distinct y))
+          (omega (arith, c .before-in y (e .frame), c .after-in y (e .frame)))
 
 one-out : (z : Bool) (o : Option Resident) (x f p g n : ℕ) (i : Place) (s : Car)
     → eqb (s .lists .c) 0 ≡ z
     → resident x (s .lists) ≡ o
     → Obeys s
+    → Obeys (inserted z o x f s .state)
     → inserted z o x f s .answer ≡ New (out p g i) n
-    → OneOut s (inserted z o x f s .state) x p
+    → OneOut s (inserted z o x f s .state) x f p g
 unfolding inserted insertAt
-one-out true o x f p g n i s hc h w q = absurd (let z : _≡_ {A = ℕ} 0 1 = cc in let y : ⊥ = omega arith in y)
-one-out false (some e) x f p g n i s hc h w q = absurd (let z : _≡_ {A = ℕ} 0 1 = cc in let y : ⊥ = omega arith in y)
-one-out false none x f p g n i s hc h w q =
+one-out true o x f p g n i s hc h w u q = absurd (let z : _≡_ {A = ℕ} 0 1 = cc in let y : ⊥ = omega arith in y)
+one-out false (some e) x f p g n i s hc h w u q = absurd (let z : _≡_ {A = ℕ} 0 1 = cc in let y : ⊥ = omega arith in y)
+one-out false none x f p g n i s hc h w u q =
     let k : (s .lists .c ≡ 0 → ⊥) = eqb-false (s .lists .c) 0 hc in
     let a = placeOf x (s .lists) in
     let r = roomFor a x s in
@@ -240,13 +330,23 @@ one-out false none x f p g n i s hc h w q =
     let full-before : residents (s .lists) ≡ s .lists .c = omega (arith, w .sound .room) in
     let e = room-ends a x s (omega arith) full-before in
     let count = car-insert-count false none x f s hc h (w .sound) in
-    exchanged s (r .state) (admitted (goesTo a) x f (r .state)) x p (w .sound) h full-before (omega arith)
-    (λ y. rw v at (e .others y))
-    (λ y. admit-held y (goesTo a) x f (r .state))
+    exchanged s (r .state) (admitted (goesTo a) x f (r .state)) x f p g
+    (record {
+      sound = w .sound;
+      after-sound = u .sound;
+      miss = h;
+      full-before = full-before;
+      full-after = omega arith;
+      before = λ y. rw v at (e .others y);
+      after = λ y. admit-held y (goesTo a) x f (r .state);
+      before-in = λ y j. rw v at (e .frames y j);
+      after-in = λ y j. admit-in y j (goesTo a) x f (r .state);
+    })
 
 pub insert-one-out : (x f p g n : ℕ) (i : Place) (s : Car)
     → Obeys s
     → does (Insert x f) s .answer ≡ New (out p g i) n
-    → OneOut s (does (Insert x f) s .state) x p
+    → OneOut s (does (Insert x f) s .state) x f p g
 unfolding does
-insert-one-out x f p g n i s w q = one-out (eqb (s .lists .c) 0) (resident x (s .lists)) x f p g n i s refl refl w q
+insert-one-out x f p g n i s w q =
+    one-out (eqb (s .lists .c) 0) (resident x (s .lists)) x f p g n i s refl refl w (does-obeys (Insert x f) s w) q

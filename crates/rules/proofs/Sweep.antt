@@ -12,7 +12,7 @@ use Rattle.rules.specs.Calls.{Replaced, steps}
 use Rattle.rules.specs.Stages.{turn}
 use Rattle.rules.specs.Counts.{outs}
 use Rattle.rules.specs.Car.{Clocked, Resident, withBit, slots, marks, Car, referenced, taken, Obeys, handOf, passed, evicted, stepThen, stepBy, step, lastStep, sweep, replace}
-use Rattle.rules.specs.Demand3.{held, goes}
+use Rattle.rules.specs.Demand3.{held, goes, inFrame, heldIn, goesFrom}
 use Rattle.rules.proofs.ListLaws.{Plus, cons-plus, snoc-plus, times-keys-append}
 use Rattle.rules.proofs.StateLaws.{put-out, turn-some, residents-set, seen-set}
 use Rattle.rules.proofs.Slots.{slotOf, marks-append, taken-set, referenced-set}
@@ -21,10 +21,20 @@ pub held-set : (y : ℕ) (i : Side) (l : List Resident) (s : Lists Clocked) → 
 held-set y first l s = omega arith
 held-set y second l s = omega arith
 
+pub heldIn-set : (y h : ℕ) (i : Side) (l : List Resident) (s : Lists Clocked)
+    → heldIn y h (setList i l s) + inFrame y h (list i s) ≡ heldIn y h s + inFrame y h l
+heldIn-set y h first l s = omega arith
+heldIn-set y h second l s = omega arith
+
+pub in-append : (y h : ℕ) (l m : List Resident) → inFrame y h (l ++ m) ≡ inFrame y h l + inFrame y h m
+in-append y h [] m = omega arith
+in-append y h (e ∷ l) m = omega (arith, in-append y h l m)
+
 -- ---- a step that evicts nobody: the lists hold what they held, but for one mark
 pub record Passed (s t : Lists Clocked) : Type 0 where
   pub same-seen : (y : ℕ) → seen y t ≡ seen y s
   pub same-held : (y : ℕ) → held y t ≡ held y s
+  pub same-frames : (y h : ℕ) → heldIn y h t ≡ heldIn y h s
   pub same-taken : (k : ℕ) → taken k t ≡ taken k s
   pub same-residents : residents t ≡ residents s
   pub one-mark : referenced s ≡ referenced t + 1
@@ -38,6 +48,10 @@ pass-law i e rest s h b =
     record {
       same-seen = λ y. omega (arith, seen-set y i rest l, seen-set y second m u, snoc-plus (list second u) d .more y, ap (λ t. times y (pages t)) h);
       same-held = λ y. omega (arith, held-set y i rest l, held-set y second m u, snoc-plus (list second u) d .more y, ap (λ t. times y (pages t)) h);
+      same-frames =
+          λ y f.
+          let n = in-append y f (list second u) (d ∷ []) in
+          omega (arith, heldIn-set y f i rest l, heldIn-set y f second m u, ap (inFrame y f) h);
       same-taken = λ k. omega (arith, taken-set k i rest l, taken-set k second m u, times-keys-append slotOf k (list second u) (d ∷ []), ap (λ t. times k (slots t)) h);
       same-residents = omega (arith, residents-set i rest l, residents-set second m u, length-append (list second u) (d ∷ []), ap length h);
       one-mark = omega (arith, referenced-set i rest l, referenced-set second m u, marks-append (list second u) (d ∷ []), ap marks h, ap one b);
@@ -60,6 +74,7 @@ pub record Swept (s : Car) (r : Replaced Car) : Type 0 where
   -- it puts out exactly one page: there is one victim, which leaves the residents, and no other page does
   pub single : outs (r .victim) ≡ 1
   pub others : (y : ℕ) → held y (s .lists) ≡ held y (r .state .lists) + goes y (r .victim)
+  pub frames : (y h : ℕ) → heldIn y h (s .lists) ≡ heldIn y h (r .state .lists) + goesFrom y h (r .victim)
   -- each step but the last clears a mark
   pub paid : steps r + referenced (r .state .lists) ≡ referenced (s .lists) + 1
 
@@ -74,6 +89,7 @@ evict-swept i e rest s h b =
       capacity = refl;
       single = refl;
       others = λ y. omega (arith, held-set y i rest l, ap (λ t. times y (pages t)) h);
+      frames = λ y f. omega (arith, heldIn-set y f i rest l, ap (inFrame y f) h);
       paid = omega (arith, referenced-set i rest l, ap marks h);
     }
 
@@ -86,6 +102,7 @@ pass-swept i e rest s r p q =
       capacity = q .capacity;
       single = q .single;
       others = λ y. omega (arith, q .others y, p .same-held y);
+      frames = λ y f. omega (arith, q .frames y f, p .same-frames y f);
       paid = omega (arith, q .paid, p .one-mark);
     }
 
