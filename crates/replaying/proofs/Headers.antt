@@ -68,7 +68,7 @@ unfolding program rules.withKind headerOf
 program-headed [] = refl
 program-headed (b ∷ bs) = by (eqb b 1) (eqb b 2)
   where
-    by : (x y : Bool) → rules.withKind (cond x (some rules.arc) (cond y (some rules.car) none)) bs
+    by : (x y : Bool) → rules.withKind (cond x (some Arc) (cond y (some Car) none)) bs
         ≡ headed (cond x (sized Arc (frameOf bs)) (cond y (sized Car (frameOf bs)) (Stop 4 0))) (b ∷ bs)
     by true y = capacity-is Arc (frameOf bs) b bs
     by false true = capacity-is Car (frameOf bs) b bs
