@@ -26,16 +26,20 @@ ghost use Rattle.batch.specs.Outcomes.{ranIs, BatchOutcome};
 pub struct CarCore {}
 
 impl CarCore {
-    pub const MAX_CAPACITY: u64 = 1024;
+    pub const MAX_CAPACITY: u64 = public::MAX_CAPACITY;
+
+    // The same as a call, so that a contract says which number it is.
+    pub fn max_capacity() -> u64
+        ensures { λ r. ⌜ r ≡ maxCapacity ⌝ }
+    {
+        Self::MAX_CAPACITY
+    }
 
     // The words that a cache of capacity c needs, 24c + 64. Past the largest capacity, which `new` refuses, those of the largest.
     pub fn words(c: u64) -> u64
         ensures { λ r. ⌜ r ≡ wordsNeeded (min c maxCapacity) ⌝ }
     {
-        if c <= Self::MAX_CAPACITY {
-            return 24 * c + 64;
-        }
-        24 * Self::MAX_CAPACITY + 64
+        public::words(c)
     }
 
     // An empty cache of capacity c, whatever the words are.

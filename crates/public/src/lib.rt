@@ -10,10 +10,32 @@ use answers::Seen;
 use fresh::Made;
 use opening::Opened;
 use rules::Kind;
+ghost use mathlib.Core.Path.{_≡_};
+ghost use Prim.Native.Nat.{min};
+ghost use Rattle.rules.specs.State.{maxCapacity};
+ghost use Rattle.rules.specs.Public.{wordsNeeded};
 ghost use Rattle.rules.specs.Calls.{Get, Insert, Remove, Clear, Peek, Contains, Len, Capacity, Target, T1Len, T2Len, B1Len, B2Len};
 ghost use Rattle.answers.specs.Answers.{gotIs, seenIs, heldIs, insertedIs, goneIs, clearedIs, countedIs};
 ghost use Rattle.calls.specs.Policy.{policyOf};
 ghost use Rattle.calls.specs.Outer.{Outcome, Told, Making, madeIs};
+
+// The largest capacity, of every kind.
+pub const MAX_CAPACITY: u64 = area::MAX_CAPACITY as u64;
+
+const PER_FRAME: u64 = area::AREA_PER_FRAME as u64;
+
+const BASE: u64 = area::AREA_BASE as u64;
+
+// The words that a cache of capacity c needs, 24c + 64. Past the largest capacity, which `new` refuses, those of the
+// largest.
+pub fn words(c: u64) -> u64
+    ensures { λ r. ⌜ r ≡ wordsNeeded (min c maxCapacity) ⌝ }
+{
+    if c <= MAX_CAPACITY {
+        return PER_FRAME * c + BASE;
+    }
+    PER_FRAME * MAX_CAPACITY + BASE
+}
 
 // An empty cache of capacity c, whatever the words are.
 pub fn new(area: &mut [u64], kind: Kind, c: u64) -> Made
