@@ -1,5 +1,11 @@
 -- The theorems about the rules. Assumes nothing.
 pub mod Bench
+pub mod BenchShapes
+pub mod BenchArc
+pub mod BenchCar
+pub mod BenchStates
+pub mod BenchCalls
+pub mod BenchBytes
 pub mod ListLaws
 pub mod StateLaws
 pub mod RunLaws
