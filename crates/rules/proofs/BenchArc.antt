@@ -73,6 +73,9 @@ arcRows =
     arc (arcPages 4 4 (1 ∷ 2 ∷ []) (3 ∷ 4 ∷ []) (5 ∷ []) (6 ∷ 7 ∷ [])) (ins 6) (toB2 4 1)
     (arcPages 4 3 (1 ∷ 2 ∷ []) (6 ∷ 3 ∷ []) (5 ∷ []) (4 ∷ 7 ∷ [])) ∷
     arc (arcPages 2 0 [] (1 ∷ 2 ∷ []) [] (6 ∷ 7 ∷ [])) (ins 7) (toB2 2 1) (arcPages 2 0 [] (7 ∷ 1 ∷ []) [] (2 ∷ 6 ∷ [])) ∷
+    -- "The step of the target is always 1": also where the other ghost list is the longer
+    arc (arcPages 6 2 (1 ∷ []) (2 ∷ []) (3 ∷ []) (4 ∷ 5 ∷ 6 ∷ [])) (ins 3) new (arcPages 6 3 (1 ∷ []) (3 ∷ 2 ∷ []) [] (4 ∷ 5 ∷ 6 ∷ [])) ∷
+    arc (arcPages 6 4 (1 ∷ []) (2 ∷ []) (3 ∷ 4 ∷ 5 ∷ []) (6 ∷ [])) (ins 6) new (arcPages 6 3 (1 ∷ []) (6 ∷ 2 ∷ []) (3 ∷ 4 ∷ 5 ∷ []) []) ∷
     -- "In neither: if T1+B1 >= c, drop B1's oldest if any"
     arc (arcPages 4 2 (1 ∷ 2 ∷ 3 ∷ []) (4 ∷ []) (5 ∷ 6 ∷ []) (7 ∷ [])) (ins 9) (toB1 3 1)
     (arcPages 4 2 (9 ∷ 1 ∷ 2 ∷ []) (4 ∷ []) (3 ∷ 5 ∷ []) (7 ∷ [])) ∷

@@ -5,13 +5,14 @@ use Prim.Native.Nat.{_-_, _^_}
 use Rattle.numbers.specs.Reading.{pageOf, frameOf}
 use Rattle.numbers.specs.Widths.{top}
 use Rattle.numbers.proofs.Examples as numbers-examples
-use Rattle.trace.specs.Reading.{checkOf}
+use Rattle.trace.specs.declared.Operation.the-variants.{Get, Insert, Remove, Clear, Peek}
+use Rattle.trace.specs.Reading.{readingOf, checkOf}
 use Rattle.trace.specs.Steps.{stepOf}
 use Rattle.trace.proofs.Examples as trace-examples
 use Rattle.rules.specs.Calls.{nowhere, Holds, Number, Made, Refused}
 use Rattle.rules.specs.Program.{bytes, placeText, textsOf}
 use Rattle.rules.specs.Decimal.{decimal}
-use Rattle.rules.proofs.BenchShapes.{Row, _is_, prints, reads, checks, numbers, printed}
+use Rattle.rules.proofs.BenchShapes.{Row, _is_, prints, reads, checks, operations, numbers, printed}
 
 -- P9, and its neighbours: crates/numbers/proofs/Examples
 abbrev pub numberRows : List Row
@@ -23,6 +24,9 @@ traceRows = map (λ e. checks (checkOf (e .bytes)) (stepOf (e .at) (e .bytes)) i
 
 abbrev pub byteRows : List Row
 byteRows =
+    -- "Codes: 1 get, 2 insert, 3 remove, 4 clear, 5 peek; then page (1, 2, 3, 5) and frame (2)"
+    (operations (readingOf (0x01 ∷ 0x05 ∷ 0x02 ∷ 0x06 ∷ 0x0B ∷ 0x03 ∷ 0x07 ∷ 0x04 ∷ 0x05 ∷ 0x08 ∷ []) .operations) is
+    operations (Get 5 ∷ Insert 6 11 ∷ Remove 7 ∷ Clear ∷ Peek 8 ∷ [])) ∷
     -- "A page has at most ten bytes, the tenth being 1; a frame at most five, the fifth at most 15": so every page is below 2^64, every frame below 2^32
     (numbers (top 1 9 ∷ top 15 4 ∷ []) is numbers ((2 ^ 64) ∷ (2 ^ 32) ∷ [])) ∷
     -- "numbers in decimal"

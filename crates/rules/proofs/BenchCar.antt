@@ -47,6 +47,9 @@ carRows =
     (carOf 3 2 (at 2 12 0 ∷ []) (at 3 13 1 ∷ at 7 8 2 ∷ []) (1 ∷ 5 ∷ []) (6 ∷ []) []) ∷
     car (carOf 3 0 [] (at 1 11 2 ∷ at 2 12 0 ∷ at 3 13 1 ∷ []) (5 ∷ []) (6 ∷ 7 ∷ []) []) (Insert 7 8) (New (out 1 11 (ghost second)) 1)
     (carOf 3 0 [] (at 2 12 0 ∷ at 3 13 1 ∷ at 7 8 2 ∷ []) (5 ∷ []) (1 ∷ 6 ∷ []) []) ∷
+    -- "The step of the target is always 1 .. CAR follows the same rule here."
+    car (carOf 3 0 [] [] (5 ∷ []) (6 ∷ 7 ∷ 8 ∷ []) (2 ∷ 0 ∷ 1 ∷ [])) (Insert 5 8) new (carOf 3 1 [] (at 5 8 2 ∷ []) [] (6 ∷ 7 ∷ 8 ∷ []) (0 ∷ 1 ∷ [])) ∷
+    car (carOf 3 3 [] [] (5 ∷ 6 ∷ 7 ∷ []) (8 ∷ []) (2 ∷ 0 ∷ 1 ∷ [])) (Insert 8 8) new (carOf 3 2 [] (at 8 8 2 ∷ []) (5 ∷ 6 ∷ 7 ∷ []) [] (0 ∷ 1 ∷ [])) ∷
     -- "Miss: replace if full, recent clock. No further ghost trimming."
     car (carOf 3 1 (at 1 11 2 ∷ at 2 12 0 ∷ []) (at 3 13 1 ∷ []) (4 ∷ 5 ∷ []) (7 ∷ 8 ∷ []) []) (Insert 9 7) (New (out 1 11 (ghost first)) 1)
     (carOf 3 1 (at 2 12 0 ∷ at 9 7 2 ∷ []) (at 3 13 1 ∷ []) (1 ∷ 4 ∷ 5 ∷ []) (7 ∷ 8 ∷ []) []) ∷
@@ -62,6 +65,8 @@ carRows =
     (carOf 3 0 (at 9 7 2 ∷ []) (at 2 12 0 ∷ at 3 13 1 ∷ []) [] (1 ∷ []) []) ∷
     car (carOf 3 3 (ref 1 11 2 ∷ ref 2 12 0 ∷ []) (ref 3 13 1 ∷ []) (5 ∷ []) (6 ∷ []) []) (Insert 6 7) (New (out 1 11 (ghost second)) 3)
     (carOf 3 2 (ref 2 12 0 ∷ []) (at 3 13 1 ∷ at 6 7 2 ∷ []) (5 ∷ []) (1 ∷ []) []) ∷
+    car (carOf 3 2 (ref 1 11 2 ∷ at 2 12 0 ∷ []) (at 3 13 1 ∷ []) (5 ∷ []) (6 ∷ []) []) (Insert 6 7) (New (out 2 12 (ghost first)) 2)
+    (carOf 3 1 [] (at 3 13 1 ∷ at 1 11 2 ∷ at 6 7 0 ∷ []) (2 ∷ 5 ∷ []) [] []) ∷
     -- the clocks that the steps of such a sweep stand at; a freed slot goes on top
     (carOut (Car.replace false (carOf 5 1 (ref 1 11 2 ∷ at 2 12 0 ∷ []) (ref 3 13 3 ∷ at 4 14 1 ∷ []) [] [] (4 ∷ []))) is
     carOut (record { victim = out 4 14 (ghost second); trail = first ∷ second ∷ second ∷ []; state = carOf 5 1 (at 2 12 0 ∷ []) (at 1 11 2 ∷ at 3 13 3 ∷ []) [] (4 ∷ []) (1 ∷ 4 ∷ []) })) ∷

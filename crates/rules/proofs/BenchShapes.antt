@@ -10,6 +10,7 @@ use Rattle.numbers.specs.declared.Number.{Number}
 use Rattle.numbers.specs.declared.Frame.{Frame}
 use Rattle.trace.specs.declared.Checked.{Checked}
 use Rattle.trace.specs.declared.Step.{Step}
+use Rattle.trace.specs.declared.Operation.{Operation}
 use Rattle.rules.specs.State.{Entry, first, second}
 use Rattle.rules.specs.Calls.{Call, Insert, ghost, nobody, out, Answer, New, Record, Done, Replaced, run}
 use Rattle.rules.specs.Counts.{Counts}
@@ -26,8 +27,9 @@ pub data Shown : Type 0 where
   prints : List ℕ → Shown
   -- numbers read
   reads : Number → Frame → Shown
-  -- a trace check, and a step of a cursor
+  -- a trace check, and a step of a cursor; the operations of a trace
   checks : Checked → Step → Shown
+  operations : List Operation → Shown
   -- numbers, and tests
   numbers : List ℕ → Shown
   tests : List Bool → Shown
