@@ -91,6 +91,7 @@ arcRows =
     (arcPages 4 2 (9 ∷ 1 ∷ 2 ∷ []) (3 ∷ []) (5 ∷ []) (4 ∷ 6 ∷ 7 ∷ [])) ∷
     arc (arcPages 4 2 (1 ∷ []) (2 ∷ 3 ∷ []) (4 ∷ 5 ∷ []) (6 ∷ 7 ∷ 8 ∷ [])) (ins 9) new
     (arcPages 4 2 (9 ∷ 1 ∷ []) (2 ∷ 3 ∷ []) (4 ∷ 5 ∷ []) (6 ∷ 7 ∷ [])) ∷
+    arc (arcPages 3 1 [] (1 ∷ 2 ∷ []) (3 ∷ 4 ∷ []) (5 ∷ 6 ∷ 7 ∷ [])) (ins 9) new (arcPages 3 1 (9 ∷ []) (1 ∷ 2 ∷ []) (3 ∷ 4 ∷ []) (5 ∷ 6 ∷ [])) ∷
     -- "Then, if residents >= c, replace. The page goes to the front of T1."
     arc (arcOf 4 1 ((1, 11) ∷ (2, 12) ∷ []) ((3, 13) ∷ []) (5 ∷ []) (6 ∷ [])) (Insert 9 8) new
     (arcOf 4 1 ((9, 8) ∷ (1, 11) ∷ (2, 12) ∷ []) ((3, 13) ∷ []) (5 ∷ []) (6 ∷ [])) ∷

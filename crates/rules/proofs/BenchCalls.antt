@@ -1,12 +1,13 @@
 -- Rows of 01's sections "Refusal numbers" and "Listings and counts": the questions, the public calls with what they leave, batches and their counts.
 -- Assumes nothing.
-use mathlib.Core.List.{List, [], _∷_, map}
+use mathlib.Core.List.{List, [], _∷_, _++_, map}
 use mathlib.Core.Bool.{true, false}
 use mathlib.Core.Option.{Option, some, none}
 use Prim.Native.Nat.{ℕ}
 use Rattle.rules.specs.State.{first}
 use Rattle.rules.specs.Calls.{Get, Insert, Remove, Clear, Ask, Question, Peek, Contains, Len, Capacity, Target, T1Len, T2Len, B1Len, B2Len, Listing, ghost, nobody, out, Answer, Hit, Miss, New, Old, None, Gone, Absent, Cleared, See, No, Holds, Number, Made, Finished, Stopped, Refused}
-use Rattle.rules.specs.Counts.{Counts, noCounts, tally, hits}
+use Rattle.rules.specs.Counts.{Counts, counts, noCounts, tally, hits}
+use Rattle.rules.specs.Batch.{Batched, batch}
 use Rattle.rules.specs.Public.{wordsNeeded, made, called, listed, batched}
 use Rattle.rules.specs.Arc.{Arc}
 use Rattle.rules.specs.Arc
@@ -41,6 +42,9 @@ lent = (7, 70) ∷ (8, 80) ∷ (9, 90) ∷ []
 -- insert 5 10, get 5, get 6, insert 5 11, insert 6 11 (which evicts 5), remove 6, remove 6, insert 7 12, peek 7, remove 9
 abbrev busy : List ℕ
 busy = 2 ∷ 5 ∷ 10 ∷ 1 ∷ 5 ∷ 1 ∷ 6 ∷ 2 ∷ 5 ∷ 11 ∷ 2 ∷ 6 ∷ 11 ∷ 3 ∷ 6 ∷ 3 ∷ 6 ∷ 2 ∷ 7 ∷ 12 ∷ 5 ∷ 7 ∷ 3 ∷ 9 ∷ []
+
+abbrev ran : List (Batched Arc)
+ran = map (λ bs. batch Arc.does 3 bs some2) ([] ∷ (4 ∷ 1 ∷ 9 ∷ []) ∷ (4 ∷ 4 ∷ 7 ∷ 9 ∷ []) ∷ (1 ∷ 9 ∷ 2 ∷ 9 ∷ []) ∷ [])
 
 -- what a public call answers and what the area then reads as; of a listing also the records, of a batch the counts
 abbrev arcLeft : Answer → Option Arc → Shown
@@ -113,11 +117,15 @@ callRows =
     arcRan (Stopped 4 3) (some (arcPages 2 1 [] [] [] [])) (tallied 0 0 0 0 0 0 1)) ∷
     (arcBatched (batched Arc.does (1 ∷ 9 ∷ 2 ∷ 1 ∷ []) old (some some2)) is
     arcRan (Stopped 5 2) (some some2) (tallied 1 0 0 0 0 0 0)) ∷
+    -- the operations done, the refusal (0 for none) and its offset (the end for none), of bytes whose first has the offset 3
+    (numbers (map (λ b. b .done) ran ++ map (λ b. b .refusal) ran ++ map (λ b. b .offset) ran) is
+    numbers (0 ∷ 2 ∷ 2 ∷ 1 ∷ 0 ∷ 0 ∷ 4 ∷ 5 ∷ 3 ∷ 6 ∷ 5 ∷ 5 ∷ [])) ∷
     -- "3 STATE .. all unchanged"
     (arcBatched (batched Arc.does (4 ∷ []) old none) is arcRan (Refused 3) none old) ∷
     -- what each answer counts
     (counting (tally (Hit 9 ∷ Miss ∷ Miss ∷ Old 9 ∷ New nobody 0 ∷ New (out 8 9 (ghost first)) 5 ∷ Gone 9 ∷ Gone 9 ∷ Gone 9 ∷ Gone 9 ∷ [])) is counting (tallied 3 1 1 2 1 5 4)) ∷
     (counting (tally (None ∷ Absent ∷ Cleared ∷ See 9 ∷ No ∷ Holds true ∷ Number 9 ∷ Made ∷ Finished 9 ∷ Stopped 9 9 ∷ Refused 9 ∷ [])) is counting nothing) ∷
+    (counting (counts 1 2 3 4 5 6 7) is counting old) ∷
     (counting noCounts is counting nothing) ∷
     (numbers (hits (tallied 1 2 4 8 16 32 64) ∷ []) is numbers (6 ∷ [])) ∷
     []

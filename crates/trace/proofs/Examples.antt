@@ -6,7 +6,7 @@ use Prim.Native.Nat.{ℕ, _-_, _^_}
 use lib.ListN.{replicate}
 use Rattle.numbers.specs.Reading.{readFrom as readNumber}
 use Rattle.trace.specs.Reading.{operationOf, readAt, readFrom, checkOf}
-use Rattle.trace.specs.Steps.{stepTo, stepAt, stepOf}
+use Rattle.trace.specs.Steps.{stepAt, stepOf}
 use Rattle.trace.specs.declared.Operation.the-variants.{Get, Insert, Remove, Clear, Peek}
 use Rattle.trace.specs.declared.Found.{Found}
 use Rattle.trace.specs.declared.Found.the-variants.{Read, End, Refused}
@@ -21,7 +21,7 @@ pub record Example : Type 0 where
 
 abbrev example : List ℕ → ℕ → ℕ → ℕ → ℕ → ℕ → Found → Example
 example bs n r o at to f =
-    record { bytes = bs; checked = record { operations = n; refusal = r; offset = o }; at = at; step = stepTo to f }
+    record { bytes = bs; checked = record { operations = n; refusal = r; offset = o }; at = at; step = record { cursor = record { at = to }; found = f } }
 
 -- bytes, then operations, refusal and offset; then a cursor, where it is after the step, and what it found
 abbrev pub examples : List Example
