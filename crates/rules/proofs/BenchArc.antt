@@ -32,6 +32,7 @@ ghostRows =
     (arcIs (removeGhost second 5 recent) is arcIs recent) ∷
     (arcIs (removeGhost first 6 (arcPages 4 2 [] [] (5 ∷ 6 ∷ 7 ∷ []) (8 ∷ []))) is arcIs (arcPages 4 2 [] [] (5 ∷ 7 ∷ []) (8 ∷ []))) ∷
     (arcIs (removeGhost second 7 (arcPages 4 2 [] [] (5 ∷ []) (6 ∷ 7 ∷ 8 ∷ []))) is arcIs (arcPages 4 2 [] [] (5 ∷ []) (6 ∷ 8 ∷ []))) ∷
+    (arcIs (removeGhost first 5 (arcPages 4 2 [] [] (5 ∷ 0 ∷ []) [])) is arcIs (arcPages 4 2 [] [] (0 ∷ []) [])) ∷
     (arcIs (dropOldest first (arcPages 4 2 [] [] [] (6 ∷ 7 ∷ []))) is arcIs (arcPages 4 2 [] [] [] (6 ∷ 7 ∷ []))) ∷
     (arcIs (dropOldest second (arcPages 4 2 [] [] (5 ∷ []) (6 ∷ 7 ∷ []))) is arcIs (arcPages 4 2 [] [] (5 ∷ []) (6 ∷ []))) ∷
     []
@@ -106,6 +107,7 @@ arcRows =
     -- "Remove: the resident leaves; no ghost is touched. Clear: all lists empty, target c/2."
     arc recent (Remove 2) (Gone 12) (arcOf 4 2 ((1, 11) ∷ (3, 13) ∷ []) ((4, 14) ∷ []) (5 ∷ []) (6 ∷ [])) ∷
     arc frequent (Remove 3) (Gone 13) (arcOf 4 2 ((1, 11) ∷ []) ((2, 12) ∷ (4, 14) ∷ []) (5 ∷ []) (6 ∷ [])) ∷
+    arc (arcPages 3 1 (5 ∷ 0 ∷ []) (6 ∷ []) [] []) (Remove 5) (Gone 0) (arcPages 3 1 (0 ∷ []) (6 ∷ []) [] []) ∷
     arcSame frequent (Remove 5) Absent ∷
     arcSame frequent (Remove 6) Absent ∷
     arcSame frequent (Remove 9) Absent ∷

@@ -38,6 +38,11 @@ byteRows =
     -- insert 5 10, get 5, peek 5, peek 6, insert 5 11, remove 5, remove 5, clear
     printed (0x02 ∷ 0x02 ∷ 0x01 ∷ 0x05 ∷ 0x02 ∷ 0x05 ∷ 0x0A ∷ 0x01 ∷ 0x05 ∷ 0x05 ∷ 0x05 ∷ 0x05 ∷ 0x06 ∷ 0x02 ∷ 0x05 ∷ 0x0B ∷ 0x03 ∷ 0x05 ∷ 0x03 ∷ 0x05 ∷ 0x04 ∷ [])
     (bytes "miss\nnew\nhit 10\nsee 10\nno\nold 10\ngone 11\nabsent\nclear\nend 9\n") ∷
+    -- "a kind byte (1 ARC, 2 CAR)": c 2, insert 5 9, insert 6 9, get 6, insert 7 9, of which each policy puts another page out
+    printed (0x01 ∷ 0x02 ∷ 0x02 ∷ 0x05 ∷ 0x09 ∷ 0x02 ∷ 0x06 ∷ 0x09 ∷ 0x01 ∷ 0x06 ∷ 0x02 ∷ 0x07 ∷ 0x09 ∷ [])
+    (bytes "new\nnew\nhit 9\nnew out 6 9 b2\nend 4\n") ∷
+    printed (0x02 ∷ 0x02 ∷ 0x02 ∷ 0x05 ∷ 0x09 ∷ 0x02 ∷ 0x06 ∷ 0x09 ∷ 0x01 ∷ 0x06 ∷ 0x02 ∷ 0x07 ∷ 0x09 ∷ [])
+    (bytes "new\nnew\nhit 9\nnew out 5 9 b1\nend 4\n") ∷
     -- answers that no operation gives have no line, and a victim is recorded nowhere by no rule
     (prints (textsOf (Holds true ∷ Number 1 ∷ Made ∷ Refused 1 ∷ [])) is prints []) ∷
     (prints (placeText nowhere) is prints (bytes "--")) ∷
@@ -53,5 +58,6 @@ byteRows =
     printed (0x03 ∷ 0x02 ∷ []) (bytes "stop 4 at 0\n") ∷
     printed (0x01 ∷ 0x81 ∷ 0x02 ∷ []) (bytes "stop 1 at 1\n") ∷
     printed (0x01 ∷ 0x80 ∷ 0x02 ∷ 0x07 ∷ []) (bytes "stop 4 at 3\n") ∷
+    printed (0x02 ∷ 0x80 ∷ 0x02 ∷ 0x07 ∷ []) (bytes "stop 4 at 3\n") ∷
     printed (0x02 ∷ 0x80 ∷ 0x02 ∷ []) (bytes "end 0\n") ∷
     []

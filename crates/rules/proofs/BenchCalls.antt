@@ -6,7 +6,7 @@ use mathlib.Core.Option.{Option, some, none}
 use Prim.Native.Nat.{ℕ}
 use Rattle.rules.specs.State.{first}
 use Rattle.rules.specs.Calls.{Get, Insert, Remove, Clear, Ask, Question, Peek, Contains, Len, Capacity, Target, T1Len, T2Len, B1Len, B2Len, Listing, ghost, nobody, out, Answer, Hit, Miss, New, Old, None, Gone, Absent, Cleared, See, No, Holds, Number, Made, Finished, Stopped, Refused}
-use Rattle.rules.specs.Counts.{Counts, counts, noCounts, tally, hits}
+use Rattle.rules.specs.Counts.{Counts, counts, noCounts, plus, tally, hits}
 use Rattle.rules.specs.Batch.{Batched, batch}
 use Rattle.rules.specs.Public.{wordsNeeded, made, called, listed, batched}
 use Rattle.rules.specs.Arc.{Arc}
@@ -126,6 +126,7 @@ callRows =
     (counting (tally (Hit 9 ∷ Miss ∷ Miss ∷ Old 9 ∷ New nobody 0 ∷ New (out 8 9 (ghost first)) 5 ∷ Gone 9 ∷ Gone 9 ∷ Gone 9 ∷ Gone 9 ∷ [])) is counting (tallied 3 1 1 2 1 5 4)) ∷
     (counting (tally (None ∷ Absent ∷ Cleared ∷ See 9 ∷ No ∷ Holds true ∷ Number 9 ∷ Made ∷ Finished 9 ∷ Stopped 9 9 ∷ Refused 9 ∷ [])) is counting nothing) ∷
     (counting (counts 1 2 3 4 5 6 7) is counting old) ∷
+    (counting (plus old (tallied 10 20 30 40 50 60 70)) is counting (tallied 11 22 33 44 55 66 77)) ∷
     (counting noCounts is counting nothing) ∷
     (numbers (hits (tallied 1 2 4 8 16 32 64) ∷ []) is numbers (6 ∷ [])) ∷
     []
