@@ -1,30 +1,38 @@
 #!/usr/bin/env python3
-"""counts.py KIND CAPACITY TRACE: the line of the program `pace` by the list model: gets, hits, updates, new pages, evictions, steps, removals."""
+"""counts.py KIND CAPACITY TRACE: what the program `pace` prints, by the list model: gets, hits, updates, new pages,
+evictions, steps, removals; then `end N` or `stop R at O`. KIND is 1 (ARC) or 2 (CAR)."""
 import os
 import sys
 
-sys.path.insert(0, os.path.join(os.path.dirname(os.path.abspath(__file__)), "..", "tools"))
+sys.path.insert(0, os.path.join(os.path.dirname(os.path.realpath(__file__)), "..", "tools"))
 sys.dont_write_bytecode = True
+import command  # noqa: E402
 from model import Arc, Car, call, operations  # noqa: E402
 
-kind, capacity = int(sys.argv[1]), int(sys.argv[2])
-with open(sys.argv[3], "rb") as f:
-    data = f.read()
-cache = (Arc if kind == 1 else Car)(capacity)
-gets = hits = updates = news = evictions = steps = removals = 0
-for op, offset in operations(data):
-    if op[0] == "end":
-        print(gets, hits, updates, news, evictions, steps, removals)
-        break
-    if op[0] == "stop":
-        print(f"stop {op[1]} at {offset}")
-        break
-    answer = call(cache, op)
-    gets += op[0] == "get"
-    hits += answer[0] == "hit"
-    updates += answer[0] == "old"
-    removals += answer[0] == "gone"
-    if answer[0] == "new":
-        news += 1
-        steps += answer[1]
-        evictions += len(answer) > 2
+
+def words(parser):
+    parser.numbers(("kind", None, 1, 2), ("capacity", None, 0, 1024))
+    parser.add_argument("trace", metavar="TRACE")
+
+
+def main(asked):
+    cache, done = (Arc if asked.kind == 1 else Car)(asked.capacity), 0
+    gets = hits = updates = news = evictions = steps = removals = 0
+    for op, offset in operations(command.read(asked.trace)):
+        if op[0] in ("end", "stop"):
+            break
+        answer = call(cache, op)
+        done += 1
+        gets += op[0] == "get"
+        hits += answer[0] == "hit"
+        updates += answer[0] == "old"
+        removals += answer[0] == "gone"
+        if answer[0] == "new":
+            news += 1
+            steps += answer[1]
+            evictions += len(answer) > 2
+    print(gets, hits, updates, news, evictions, steps, removals)
+    print(f"end {done}" if op[0] == "end" else f"stop {op[1]} at {offset}")
+
+
+command.run(main, __doc__, words)

@@ -1,5 +1,5 @@
 -- What answers the needs of the program. Assumes nothing.
-use mathlib.Core.Path.{_≡_, sym}
+use mathlib.Core.Path.{_≡_, refl, sym, _∙_}
 use mathlib.Core.List.{List}
 use Prim.Native.Nat.{ℕ, _≤_}
 use lib.ListN.{length, take}
@@ -31,4 +31,22 @@ pub opens-ready : (k : Kind) (o : Opened) (w : List ℕ) (c : ℕ) → Opens (po
 unfolding Ready
 opens-ready k o w c h q = opened k o w h c q
 
-pub ruleset laws = (prefix-length, asks-good, stays-ready, opens-ready, needs)
+-- ---- the loop that reads: the area stays ready, and both slices keep their lengths
+pub record Going (k : Kind) (c : ℕ) (area₀ bytes₀ area bytes : List ℕ) : Type 0 where
+  pub ready : Ready k c area
+  pub area-size : length area ≡ length area₀
+  pub bytes-size : length bytes ≡ length bytes₀
+
+pub begins : (k : Kind) (c : ℕ) (area bytes : List ℕ) → Ready k c area → Going k c area bytes area bytes
+begins k c area bytes r = record { ready = r; area-size = refl; bytes-size = refl }
+
+pub going-on : (k : Kind) (c : ℕ) (area₀ bytes₀ area bytes area₁ bytes₁ : List ℕ)
+    → Going k c area₀ bytes₀ area bytes
+    → length area₁ ≡ length area
+    → length bytes₁ ≡ length bytes
+    → Ready k c area₁
+    → Going k c area₀ bytes₀ area₁ bytes₁
+going-on k c area₀ bytes₀ area bytes area₁ bytes₁ g a b r =
+    record { ready = r; area-size = a ∙ g .area-size; bytes-size = b ∙ g .bytes-size }
+
+pub ruleset laws = (prefix-length, asks-good, stays-ready, opens-ready, begins, going-on, needs)

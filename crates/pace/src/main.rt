@@ -1,9 +1,11 @@
 // The program `pace`: how fast a batch is. Arguments KIND (1 ARC, 2 CAR), CAPACITY and REPEATS; operations on standard input, without a kind
 // byte and a capacity. The trace is read whole; then it is run that often, each time on a fresh cache, and the counts of the last run are
-// told on one line: gets, hits, updates, new pages, evictions, steps, removals.
+// told on one line: gets, hits, updates, new pages, evictions, steps, removals. The last line is the replay program's: `end N` after N operations, or
+// `stop R at O`, and then the counts are those of the operations before byte O.
 //
 // An array has at most 524,288 elements, so the trace lies in eight, 4 MB together. Each holds whole operations: what a buffer has of an
 // operation that it cuts moves to the start of the next. An area is opened once in each run, as a batch does, and then run on every piece.
+// Where REPEATS is 0 a trace of any length is run once, while it is read: one buffer is filled again and again.
 use batch::Counts;
 use batch::Ran;
 use batch::Tally;
@@ -43,11 +45,19 @@ struct Reading {
     more: bool,
 }
 
-// How far a run is: the counts, the bytes passed, and the number of the refusal that stopped it there, or 0.
+// How far a run is: the counts, the operations done, the bytes passed, and the number of the refusal that stopped it there, or 0.
 struct Run {
     counts: Counts,
+    done: u64,
     passed: u64,
     refusal: u8,
+}
+
+// Where a run that reads stands: the run, how many bytes wait at the start of the buffer, and whether to go on.
+struct Standing {
+    run: Run,
+    kept: usize,
+    more: bool,
 }
 
 // Where the whole operations of four buffers end.
@@ -251,6 +261,7 @@ fn start() -> Run {
             steps: 0,
             removals: 0,
         },
+        done: 0,
         passed: 0,
         refusal: 0,
     }
@@ -274,13 +285,15 @@ fn joined(r: Run, n: usize, tally: Tally) -> Run {
     let counts = sum(r.counts, tally.counts);
     let ran = tally.ran;
     match ran {
-        Ran::Done(_) => Run {
+        Ran::Done(operations) => Run {
             counts,
+            done: std::num::wrapping_add_u64(r.done, operations),
             passed: std::num::wrapping_add_u64(r.passed, n as u64),
             refusal: 0,
         },
         Ran::Stopped { number, offset } => Run {
             counts,
+            done: r.done,
             passed: std::num::wrapping_add_u64(r.passed, offset),
             refusal: number,
         },
@@ -399,6 +412,74 @@ fn area() -> [u64; 24640]
     [0; 24640]
 }
 
+// ---- running it while it is read
+// Where the operations to run end. A buffer that is full and has no whole operation holds one that no rule reads: it is run, to be refused.
+fn end_to_run(bytes: &[u8], filled: usize, more: bool) -> usize {
+    let end = end_of(bytes, filled, more);
+    if end == 0 { filled } else { end }
+}
+
+// Moves the bytes from a place up to another, or to the end, to the front; how many they are.
+fn to_front(bytes: &mut [u8], from: usize, to: usize) -> usize {
+    if to <= bytes.len() {
+        if from <= to {
+            return pieces::keep(bytes, from, to);
+        }
+    }
+    0
+}
+
+// One turn: reads behind the bytes kept, runs the whole operations, and keeps the others.
+fn turn(area: &mut [u64], c: usize, kind: Kind, bytes: &mut [u8], s: Standing) -> Standing
+    requires { ⌜ Ready kind c (now area) ⌝ }
+    ensures { λ _. ⌜ Ready kind c (now (area .exit)) ⌝ }
+{
+    let kept = least(s.kept, bytes.len());
+    let filled = refill(bytes, kept);
+    let full = filled == bytes.len();
+    let end = end_to_run(bytes, filled, full);
+    let before = s.run;
+    let run = run_piece(area, c, kind, bytes, end, before);
+    let left = to_front(bytes, end, filled);
+    let more = if run.refusal == 0 { full } else { false };
+    Standing {
+        run,
+        kept: left,
+        more,
+    }
+}
+
+// A proved loop has to end, and nothing says that the input does: the turns are counted down, from a number that no run uses up.
+fn run_reading(area: &mut [u64], c: usize, kind: Kind, bytes: &mut [u8]) -> Run
+    requires { ⌜ Ready kind c (now area) ⌝ }
+{
+    let mut s = Standing {
+        run: start(),
+        kept: 0,
+        more: true,
+    };
+    let mut turns = u64::MAX;
+    while turns > 0 {
+        s = turn(area, c, kind, bytes, s);
+        if !s.more {
+            return s.run;
+        }
+        turns -= 1;
+    }
+    s.run
+}
+
+// The input, on a fresh cache.
+fn run_input(area: &mut [u64], job: Job, bytes: &mut [u8]) -> Run {
+    let kind = job.kind;
+    let header = calls::number(kind);
+    fresh::new(area, header, job.capacity);
+    match opening::open(area, kind) {
+        Opened::Cache(c) => run_reading(area, c, kind, bytes),
+        Opened::Refused => start(),
+    }
+}
+
 // ---- telling
 // A count, and what stands behind it.
 fn tell(n: u64, behind: &[u8]) {
@@ -416,10 +497,12 @@ fn tell_counts(n: Counts) {
     tell(n.removals, b"\n");
 }
 
-// The counts, or the refusal as the replay program tells it.
+// The counts, and the last line of the replay program.
 fn tell_run(r: Run) {
+    tell_counts(r.counts);
     if r.refusal == 0 {
-        tell_counts(r.counts);
+        io::write_all(STDOUT_FILENO, b"end ");
+        tell(r.done, b"\n");
         return;
     }
     io::write_all(STDOUT_FILENO, b"stop ");
@@ -511,13 +594,29 @@ fn with_none(job: Job) {
     with_two(job, &b1, &b2, r1.end, r2);
 }
 
+// The trace is run once, while it is read.
+fn with_one(job: Job) {
+    let mut area = area();
+    let mut bytes = buffer();
+    let last = run_input(&mut area, job, &mut bytes);
+    tell_run(last);
+}
+
+fn do_job(job: Job) {
+    if job.repeats == 0 {
+        with_one(job);
+        return;
+    }
+    with_none(job);
+}
+
 fn main() {
     match read_job() {
-        Asked::Job(job) => with_none(job),
+        Asked::Job(job) => do_job(job),
         Asked::Unclear => {
             io::write_all(
                 STDERR_FILENO,
-                b"usage: pace KIND CAPACITY REPEATS <TRACE, KIND being 1 ARC or 2 CAR\n",
+                b"usage: pace KIND CAPACITY REPEATS <TRACE, KIND being 1 ARC or 2 CAR, CAPACITY at most 1024\n",
             );
         }
     }
