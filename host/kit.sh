@@ -1,47 +1,36 @@
-# Sourced by the scripts here and in bench/: how a C program is built over the archive of the trace check, and how it is run. Defines
-#   root              the repository
-#   archive           proves the trace check and writes target/staticlib/libtrace.a
+# Sourced by the scripts here and in bench/: how a C program is built over the archive of the trace check, and how it
+# is run. Sources tools/programs.sh, and defines
+#   host_kit             looks for the kit and a compiler, and sets RUN and with
+#   archive              proves the trace check and writes target/staticlib/libtrace.a
 #   build_c OUT FILE..   compiles C files and links them with that archive
-#   RUN               the words in front of a program that build_c made; empty where it runs by itself
-#   with              cc or kit: the machine's own compiler, or the kit's compiler, linker, C library and, on Arm, emulator, which need no package
-# HOST_WITH=kit or HOST_WITH=cc chooses; else it is cc on x86-64 where there is one. CC names another compiler than cc or gcc.
-root=$(cd "$(dirname "${BASH_SOURCE[0]}")/.." && pwd -P)
-command -v rt >/dev/null || { echo "${0##*/}: rt is missing: install the Rattle kit and put its bin folder on the PATH" >&2; exit 2; }
-kit=${RATTLE_HOME:-$(cd "$(dirname "$(readlink -f "$(command -v rt)")")/.." && pwd -P)}
-own=$kit/on/$(uname -m)
-tools=$own/toolchain
+#   RUN                  the words in front of a program that build_c made; empty where it runs by itself
+#   with                 cc or kit: the machine's own compiler, or the kit's compiler, linker, C library and, on Arm,
+#                        its emulator, which need no package
+# HOST_WITH=kit or HOST_WITH=cc chooses; else it is cc on x86-64 where there is one. CC names another compiler than cc or
+# gcc.
+. "$(dirname "$(readlink -f "${BASH_SOURCE[0]}")")/../tools/programs.sh"
 
-find_cc() {
-    local name
-    for name in ${CC:+"$CC"} cc gcc; do
-        if command -v "$name" >/dev/null 2>&1; then echo "$name"; return 0; fi
-    done
-    return 1
+host_kit() {
+    need rt
+    with=${HOST_WITH:-}
+    if [ -z "$with" ]; then
+        with=kit
+        if [ "$(uname -m)" = x86_64 ] && find_cc; then with=cc; fi
+    fi
+    case $with in
+    cc) need cc; RUN=() ;;
+    kit) cc=("$tools/bin/clang") ;;
+    *) unable "HOST_WITH is cc or kit, and not ${with:0:40}" ;;
+    esac
 }
-
-with=${HOST_WITH:-}
-if [ -z "$with" ]; then
-    with=kit
-    if [ "$(uname -m)" = x86_64 ] && find_cc >/dev/null; then with=cc; fi
-fi
-
-RUN=()
-case $with in
-cc) compiler=$(find_cc) || { echo "${0##*/}: no C compiler: install one (Debian: apt-get install gcc), name one in CC, or set HOST_WITH=kit" >&2; exit 2; } ;;
-kit)
-    compiler=$tools/bin/clang
-    if [ -x "$tools/bin/qemu-x86_64" ]; then RUN=("$tools/bin/qemu-x86_64"); fi
-    RUN+=("$tools/lib/ld-linux-x86-64.so.2" --library-path "$tools/lib")
-    ;;
-*) echo "host: HOST_WITH is cc or kit, and not $with" >&2; exit 2 ;;
-esac
 
 # The archive, proved and written anew where a file of the crates is newer than it.
 archive() {
     local made=$root/target/staticlib/libtrace.a log=$root/target/host/staticlib.log
     mkdir -p "$root/target/host"
-    if [ -f "$made" ] && [ -z "$(find "$root/crates.txt" "$root/crates/numbers" "$root/crates/trace" -newer "$made" -print -quit)" ]; then return 0; fi
-    (cd "$root" && rt staticlib trace) >"$log" 2>&1 || { cat "$log" >&2; return 1; }
+    if [ -f "$made" ] &&
+        [ -z "$(cd "$root" && find crates.txt crates/numbers crates/trace -newer "$made" -print -quit)" ]; then return 0; fi
+    (cd "$root" && rt staticlib trace) >"$log" 2>&1 || { cat "$log" >&2; return 2; }
 }
 
 warn=(-std=c99 -Wall -Wextra -Wpedantic -Werror)
@@ -57,7 +46,7 @@ build_c() { # OUT FILE..
     shift
     mkdir -p "$(dirname "$out")"
     if [ "$with" = cc ]; then
-        "$compiler" "${warn[@]}" -O2 -I "$root/include" -o "$out" "$@" "$root/target/staticlib/libtrace.a"
+        "${cc[@]}" "${warn[@]}" -O2 -I "$root/include" -o "$out" "$@" "$root/target/staticlib/libtrace.a"
         return
     fi
     for file in "$@"; do
@@ -69,6 +58,6 @@ build_c() { # OUT FILE..
         *) objects+=("$file") ;;
         esac
     done
-    "$own/bin/rattle-link" --target x86_64-unknown-linux-gnu --toolchain "$tools" -o "$out" "${objects[@]}" "$root/target/staticlib/libtrace.a" >"$out.link.log" 2>&1 ||
-        { cat "$out.link.log" >&2; return 1; }
+    "$own/bin/rattle-link" --target x86_64-unknown-linux-gnu --toolchain "$tools" -o "$out" "${objects[@]}" \
+        "$root/target/staticlib/libtrace.a" >"$out.link.log" 2>&1 || { cat "$out.link.log" >&2; return 1; }
 }

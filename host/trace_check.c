@@ -13,8 +13,10 @@
 static const char help[] =
     "usage: trace_check FILE..\n"
     "\n"
-    "Checks each FILE, a trace of operations, without running it; - is standard input.\n"
-    "Prints a line for each, in the given order:\n"
+    "Checks each FILE, a trace, without running it; - is standard input. A trace holds operations\n"
+    "alone: a kind and a capacity before them would be read as an operation. A FILE whose name\n"
+    "ends in .input, as such a one should be named, is not checked. Prints a line for each, in the\n"
+    "given order:\n"
     "\n"
     "    FILE: operations N refusal R offset O\n"
     "\n"
@@ -23,8 +25,8 @@ static const char help[] =
     "at which the refused operation starts, or the length of the trace where R is 0.\n"
     "\n"
     "A FILE that cannot be read gets a message on standard error, and the others their lines.\n"
-    "Exit status: 0 where every FILE was read, refused or not; 1 where one was not, or the\n"
-    "lines could not be written; 2 without a FILE.\n";
+    "Statuses: 0 every FILE is a trace that reads whole; 1 one is refused; 2 one could not be\n"
+    "read, the lines could not be written, or there was no FILE, or an option other than --help.\n";
 
 /* A whole file in memory. `bytes` is never null. */
 struct contents {
@@ -77,12 +79,27 @@ static int read_file(const char *name, struct contents *c)
     return error;
 }
 
-static void print_check(const char *name, const struct contents *c)
+/* Prints the line of a trace. Returns whether it is refused. */
+static int print_check(const char *name, const struct contents *c)
 {
+    uint64_t refusal = trace_refusal(c->bytes, c->length);
     printf("%s: operations %llu refusal %llu offset %llu\n", name,
-           (unsigned long long)trace_operations(c->bytes, c->length),
-           (unsigned long long)trace_refusal(c->bytes, c->length),
+           (unsigned long long)trace_operations(c->bytes, c->length), (unsigned long long)refusal,
            (unsigned long long)trace_offset(c->bytes, c->length));
+    return refusal != 0;
+}
+
+/* Whether a name ends in .input, in small letters or capital ones. */
+static int is_input(const char *name)
+{
+    static const char small[] = ".input", capital[] = ".INPUT";
+    size_t length = strlen(name), i;
+    if (length < 6)
+        return 0;
+    for (i = 0; i < 6; i++)
+        if (name[length - 6 + i] != small[i] && name[length - 6 + i] != capital[i])
+            return 0;
+    return 1;
 }
 
 int main(int argc, char **argv)
@@ -94,23 +111,36 @@ int main(int argc, char **argv)
     }
     if (argc == 2 && strcmp(argv[1], "--help") == 0) {
         fputs(help, stdout);
-        return fflush(stdout) == 0 ? 0 : 1;
+        return fflush(stdout) == 0 ? 0 : 2;
     }
+    for (int i = 1; i < argc; i++)
+        if (argv[i][0] == '-' && argv[i][1] != '\0') {
+            fprintf(stderr, "trace_check: %.40s is no option; trace_check --help tells more\n", argv[i]);
+            return 2;
+        }
     for (int i = 1; i < argc; i++) {
         struct contents c;
-        int error = read_file(argv[i], &c);
+        int error;
+        if (is_input(argv[i])) {
+            fflush(stdout);
+            fprintf(stderr, "trace_check: %s is, by its name, no trace: a kind and a capacity are no operation\n", argv[i]);
+            status = 2;
+            continue;
+        }
+        error = read_file(argv[i], &c);
         if (error != 0) {
             fflush(stdout);
             fprintf(stderr, "trace_check: cannot read %s: %s\n", argv[i], strerror(error));
-            status = 1;
+            status = 2;
             continue;
         }
-        print_check(argv[i], &c);
+        if (print_check(argv[i], &c) && status == 0)
+            status = 1;
         free(c.bytes);
     }
     if (fflush(stdout) != 0 || ferror(stdout)) {
         fprintf(stderr, "trace_check: cannot write the answers: %s\n", strerror(errno));
-        status = 1;
+        status = 2;
     }
     return status;
 }
