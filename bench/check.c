@@ -33,20 +33,22 @@ static uint64_t call(int what)
 static int load(const char *name)
 {
     FILE *in = fopen(name, "rb");
-    if (in == NULL)
+    if (in == NULL) {
+        perror(name);
         return 0;
+    }
     words = fread(area, 8, MOST, in);
     fclose(in);
     memcpy(fresh, area, words * 8);
     memcpy(used, area, words * 8);
     if (words < 64 || timed_check(area, words, area[0]) != 1 || timed_new(fresh, words, area[0], area[1]) != 0 ||
         timed_check(fresh, words, area[0]) != 1 || (area[0] == 1 && call(4) >> 32 != 0) || plain_sum(area, words) != scalar_sum(area, words)) {
-        printf("%s: the calls do not answer as they should\n", name);
+        fprintf(stderr, "%s: no area of a full cache, or the calls do not answer as they should\n", name);
         return 0;
     }
     area[words - 1] ^= 1;
     if (timed_check(area, words, area[0]) != 0) {
-        printf("%s: the check does not see a link that leads astray\n", name);
+        fprintf(stderr, "%s: the check does not see a link that leads astray\n", name);
         return 0;
     }
     area[words - 1] ^= 1;

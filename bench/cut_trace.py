@@ -1,27 +1,36 @@
 #!/usr/bin/env python3
 """cut_trace.py IN OUT FROM COUNT: writes COUNT operations of a trace, from operation FROM on."""
+import os
 import sys
 
-
-def past(data, at):
-    """The place behind the operation at a place."""
-    code = data[at]
-    at += 1
-    for _ in range({2: 2, 4: 0}.get(code, 1)):
-        while data[at] >= 128:
-            at += 1
-        at += 1
-    return at
+sys.path.insert(0, os.path.join(os.path.dirname(os.path.realpath(__file__)), "..", "tools"))
+sys.dont_write_bytecode = True
+import command  # noqa: E402
+from model import operations  # noqa: E402
 
 
-name, out, first, count = sys.argv[1], sys.argv[2], int(sys.argv[3]), int(sys.argv[4])
-with open(name, "rb") as f:
-    data = f.read()
-at = 0
-for _ in range(first):
-    at = past(data, at)
-start = at
-for _ in range(count):
-    at = past(data, at)
-with open(out, "wb") as f:
-    f.write(data[start:at])
+def words(parser):
+    parser.add_argument("source", metavar="IN")
+    parser.add_argument("out", metavar="OUT")
+    for name in ("FROM", "COUNT"):
+        parser.add_argument(name, type=lambda word, name=name: command.number(word, name, 10**12))
+
+
+def main(asked):
+    data = command.read(asked.source)
+    first, last = asked.FROM, asked.FROM + asked.COUNT
+    places = [0, 0]
+    done = 0
+    for op, offset in operations(data):
+        if done in (first, last):
+            places[done == last] = offset
+        if op[0] in ("end", "stop"):
+            break
+        done += 1
+    if done < last:
+        raise command.Unable(f"{asked.source} has {done} operations, and not {last}")
+    with open(asked.out, "wb") as f:
+        f.write(data[places[0] if asked.COUNT else places[1]:places[1]])
+
+
+command.run(main, __doc__, words)

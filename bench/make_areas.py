@@ -8,8 +8,9 @@ import random
 import struct
 import sys
 
-sys.path.insert(0, os.path.join(os.path.dirname(os.path.abspath(__file__)), "..", "tools"))
+sys.path.insert(0, os.path.join(os.path.dirname(os.path.realpath(__file__)), "..", "tools"))
 sys.dont_write_bytecode = True
+import command  # noqa: E402
 import area  # noqa: E402
 from model import Arc, Car  # noqa: E402
 
@@ -54,8 +55,12 @@ def moved(state, slots):
     return other
 
 
-def main():
-    folder = sys.argv[1]
+def words(parser):
+    parser.add_argument('folder', metavar='FOLDER')
+
+
+def main(asked):
+    folder = asked.folder
     rng = random.Random(5)
     for kind, (name, _) in KINDS.items():
         for c in (64, 256, 1024):
@@ -64,10 +69,10 @@ def main():
             more = ('', '-2', '-3', '-4') if c == 1024 else ('',)
             for shape, bits in [(name_of + n, size) for name_of, size in (('run', 26), ('wide', 64)) for n in more]:
                 shapes[shape] = area.write(kind, moved(run(kind, c, bits, rng), any_order(c)), order=any_order)
-            for shape, words in shapes.items():
-                assert area.good(words, kind)
+            for shape, content in shapes.items():
+                assert area.good(content, kind)
                 with open(os.path.join(folder, f'{name}-{c}-{shape}.area'), 'wb') as out:
-                    out.write(struct.pack(f'<{len(words)}Q', *words))
+                    out.write(struct.pack(f'<{len(content)}Q', *content))
 
 
-main()
+command.run(main, __doc__, words)

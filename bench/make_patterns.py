@@ -7,8 +7,9 @@ import os
 import random
 import sys
 
-sys.path.insert(0, os.path.join(os.path.dirname(os.path.abspath(__file__)), "..", "tools"))
+sys.path.insert(0, os.path.join(os.path.dirname(os.path.realpath(__file__)), "..", "tools"))
 sys.dont_write_bytecode = True
+import command  # noqa: E402
 from model import written  # noqa: E402
 
 
@@ -33,8 +34,13 @@ def zipf(rng, count, pages):
     return rng.choices(range(pages), cum_weights=weights, k=count)
 
 
-def main():
-    folder, count = sys.argv[1], int(sys.argv[2]) if len(sys.argv) > 2 else 60000
+def words(parser):
+    parser.add_argument("folder", metavar="DIR")
+    parser.numbers(("accesses", 60000, 1, 10**9))
+
+
+def main(asked):
+    folder, count = asked.folder, asked.accesses
     rng = random.Random(9)
     skewed = zipf(rng, count, 4000)
     patterns = {
@@ -49,4 +55,4 @@ def main():
             f.write(operations(pages))
 
 
-main()
+command.run(main, __doc__, words)

@@ -19,10 +19,10 @@ native_object() { # OUT FLAG.. FILE
 native_library() { # CRATE OUT
     local name=$1 made=$2
     if [ "$(uname -m)" = x86_64 ] && [ "${BENCH_WITH:-}" != module ]; then
-        (cd "$root" && rt staticlib "$name") >"$made.log" 2>&1 || { cat "$made.log" >&2; return 1; }
+        (cd "$root" && rt staticlib "$name") >"$made.log" 2>&1 || { cat "$made.log" >&2; return 2; }
         rm -rf "$made.d"
         mkdir -p "$made.d"
-        (cd "$made.d" && ar x "$root/target/staticlib/lib$name.a" && ld -r -o "$made" ./*.o)
+        (cd "$made.d" && ar x "$root/target/staticlib/lib$name.a" && ld -r -o "$made" ./*.o) || return 2
         return
     fi
     (cd "$root" && rt check "$name") >"$made.log" 2>&1 || { cat "$made.log" >&2; return 1; }
@@ -80,5 +80,5 @@ native_program() { # CRATE OUT
     fi
     keep_module "$name" "$made.bc" >>"$made.log" 2>&1 || { cat "$made.log" >&2; return 1; }
     native_module "$made.bc" "$made.o"
-    "$compiler" -O2 -o "$made" "$made.o" "$root/bench/arguments.c"
+    "${cc[@]}" -O2 -o "$made" "$made.o" "$root/bench/arguments.c"
 }

@@ -13,6 +13,10 @@ import subprocess
 import sys
 import tempfile
 
+sys.path.insert(0, os.path.join(os.path.dirname(os.path.realpath(__file__)), "..", "tools"))
+sys.dont_write_bytecode = True
+import command  # noqa: E402
+
 ENOUGH = 0.12  # seconds of processor time that the many repeats are to take
 NAMES = {1: "ARC", 2: "CAR"}
 middle = statistics.median  # or min
@@ -27,17 +31,17 @@ def words(programs, name, kind, capacity, repeats, trace):
     return [programs[name], str(kind), str(capacity), str(repeats)]
 
 
-def started(command, trace, before=()):
+def started(line, trace, before=()):
     """Runs a command on a trace: what it wrote, its seconds of processor time, and what it wrote to standard error."""
     with open(trace, "rb") as source, tempfile.TemporaryFile() as out, tempfile.TemporaryFile() as err:
-        child = subprocess.Popen([*before, *command], stdin=source, stdout=out, stderr=err)
+        child = subprocess.Popen([*before, *line], stdin=source, stdout=out, stderr=err)
         _, status, used = os.wait4(child.pid, 0)
         child.returncode = status
         out.seek(0)
         err.seek(0)
         said = out.read().decode()
-        if status != 0 and "plain_cache" not in command[0]:
-            sys.exit(f"pace: {' '.join(command)} ended with status {status}: {err.read().decode()[-300:]}")
+        if status != 0 and "plain_cache" not in line[0]:
+            raise command.Unable(f"{' '.join(line)} ended with status {status}: {err.read().decode()[-300:]}")
         return said, used.ru_utime + used.ru_stime, err.read().decode()
 
 
@@ -52,9 +56,9 @@ def operations_of(programs, trace):
     return int(started(words(programs, "c", 1, 1, 1, trace), trace)[0].split()[0])
 
 
-def instructions(command, trace):
+def instructions(line, trace):
     with tempfile.NamedTemporaryFile() as log:
-        started(command, trace, ("valgrind", "--tool=callgrind", "--callgrind-out-file=/dev/null", f"--log-file={log.name}"))
+        started(line, trace, ("valgrind", "--tool=callgrind", "--callgrind-out-file=/dev/null", f"--log-file={log.name}"))
         return int(re.search(r"Collected : (\d+)", log.read().decode()).group(1))
 
 
@@ -67,7 +71,7 @@ class Case:
         self.counts = told["rattle"]
         for name in programs:
             if told[name] != self.counts:
-                sys.exit(f"pace: {self.label()}: {name} counts {told[name]}, and rattle {self.counts}")
+                raise command.Refused(f"{self.label()}: {name} counts {told[name]}, and rattle {self.counts}")
         self.repeats = {}
         self.times = {name: [] for name in programs}
         self.executed = {}
@@ -151,22 +155,26 @@ def judged(cases):
     return good
 
 
-def main(arguments):
+def sizes(text):
+    return [command.number(word, "a capacity", 1024) for word in text.split(",")]
+
+
+def declared(parser):
+    parser.add_argument("places", metavar="PLACES")
+    parser.add_argument("--rounds", type=lambda word: command.number(word, "--rounds", 10**6, 1), default=7)
+    parser.add_argument("--capacities", type=sizes, default=[64, 256, 1024])
+    parser.add_argument("--count", action="store_true")
+    parser.add_argument("--least", action="store_true")
+    parser.add_argument("traces", nargs="+", metavar="TRACE")
+
+
+def main(asked):
     global middle
-    programs = dict(word.split("=", 1) for word in arguments.pop(0).split())
-    rounds, capacities, counted, traces = 7, [64, 256, 1024], False, []
-    while arguments:
-        word = arguments.pop(0)
-        if word == "--rounds":
-            rounds = int(arguments.pop(0))
-        elif word == "--capacities":
-            capacities = [int(n) for n in arguments.pop(0).split(",")]
-        elif word == "--count":
-            counted = True
-        elif word == "--least":
-            middle = min
-        else:
-            traces.append(word)
+    programs = dict(word.split("=", 1) for word in asked.places.split())
+    rounds, capacities, counted, traces = asked.rounds, asked.capacities, asked.count, asked.traces
+    middle = min if asked.least else middle
+    for trace in traces:
+        command.read(trace)
     cases = []
     for trace in traces:
         operations = operations_of(programs, trace)
@@ -189,4 +197,4 @@ def main(arguments):
 
 
 if __name__ == "__main__":
-    sys.exit(main(sys.argv[1:]))
+    command.run(main, __doc__, declared)
