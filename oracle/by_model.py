@@ -10,7 +10,8 @@ import os
 import sys
 
 sys.dont_write_bytecode = True
-sys.path.insert(0, os.path.join(os.path.dirname(os.path.abspath(__file__)), '..', 'tools'))
+sys.path.insert(0, os.path.join(os.path.dirname(os.path.realpath(__file__)), '..', 'tools'))
+import command  # noqa: E402
 from model import Arc, Car, call, frame, line, operations, program  # noqa: E402
 
 HALF, FACTOR = 2 ** 32, 4294957665
@@ -129,29 +130,29 @@ def compare(given, written, largest):
         found = written[at:at + len(wanted)]
         if found != wanted:
             first = next(i for i in range(len(wanted)) if found[i:i + 1] != wanted[i:i + 1])
-            sys.exit('by_model: case %d, input %s, line %d: the model has `%s`' % (number, data.hex(), at + first + 1, wanted[first]))
+            raise command.Refused('case %d, input %s, line %d: the model has `%s`' % (number, data.hex(), at + first + 1, wanted[first]))
         compared += 1
         at += len(wanted)
     if at != len(written):
-        sys.exit('by_model: %d lines, where the cases have %d' % (len(written), at))
+        raise command.Refused('%d lines, where the cases have %d' % (len(written), at))
     print('by_model: %d cases are the same by tools/model.py, %d of a capacity above %d passed over' % (compared, passed_over, largest))
 
 
-def content(name):
-    with open(name, 'rb') as f:
-        return f.read()
+def words(parser):
+    parser.add_argument('what', choices=('replay', 'states', 'compare'))
+    parser.add_argument('files', nargs='*')
 
 
-def main():
-    words = sys.argv[1:]
-    if words[:1] == ['compare'] and len(words) == 4:
-        compare(content(words[1]), content(words[2]).decode().splitlines(), int(words[3]))
+def main(asked):
+    if len(asked.files) != (3 if asked.what == 'compare' else 0):
+        raise command.Unable('%s takes other words; by_model.py --help tells which' % asked.what)
+    if asked.what == 'compare':
+        largest = command.number(asked.files[2], 'LARGEST', 1024)
+        compare(command.read(asked.files[0]), command.read(asked.files[1]).decode().splitlines(), largest)
         return
-    if words not in (['replay'], ['states']):
-        sys.exit(__doc__)
-    data = sys.stdin.buffer.read()
-    lines = program(data) if words == ['replay'] else [text for mode, given in cases(data) for text in case(mode, given)]
+    data = command.read('-')
+    lines = program(data) if asked.what == 'replay' else [text for mode, given in cases(data) for text in case(mode, given)]
     sys.stdout.write(''.join(text + '\n' for text in lines))
 
 
-main()
+command.run(main, __doc__, words)
