@@ -82,11 +82,11 @@ static int read_file(const char *name, struct contents *c)
 /* Prints the line of a trace. Returns whether it is refused. */
 static int print_check(const char *name, const struct contents *c)
 {
-    uint64_t refusal = trace_refusal(c->bytes, c->length);
-    printf("%s: operations %llu refusal %llu offset %llu\n", name,
-           (unsigned long long)trace_operations(c->bytes, c->length), (unsigned long long)refusal,
-           (unsigned long long)trace_offset(c->bytes, c->length));
-    return refusal != 0;
+    uint64_t answers[3] = {0, 0, 0};
+    trace_check_all(c->bytes, c->length, answers, 3);
+    printf("%s: operations %llu refusal %llu offset %llu\n", name, (unsigned long long)answers[0],
+           (unsigned long long)answers[1], (unsigned long long)answers[2]);
+    return answers[1] != 0;
 }
 
 /* Whether a name ends in .input, in small letters or capital ones. */

@@ -1,4 +1,5 @@
 -- The laws of traces. Assumes nothing.
+pub mod Answers
 pub mod Arms
 pub mod Checks
 pub mod Examples

@@ -91,3 +91,18 @@ abbrev pub checkOf : List ℕ → Checked
 checkOf bs =
     let r = readingOf bs in
     record { operations = length (r .operations); refusal = r .refusal; offset = r .offset }
+
+-- ---- the three answers of a check in words that a caller lends
+-- the words with the answers in the first three; fewer than three stay as they are
+unfoldable pub toldInto : Checked → List ℕ → List ℕ
+toldInto c [] = []
+toldInto c (x ∷ []) = x ∷ []
+toldInto c (x ∷ y ∷ []) = x ∷ y ∷ []
+toldInto c (x ∷ y ∷ z ∷ rest) = c .operations ∷ c .refusal ∷ c .offset ∷ rest
+
+-- 1 where there is room for the answers, else 0
+unfoldable pub roomIn : List ℕ → ℕ
+roomIn [] = 0
+roomIn (x ∷ []) = 0
+roomIn (x ∷ y ∷ []) = 0
+roomIn (x ∷ y ∷ z ∷ rest) = 1

@@ -4,7 +4,7 @@ use numbers::Number;
 ghost use mathlib.Core.Path.{_≡_};
 ghost use Prim.Native.Nat.{_+_, _<_, _^_};
 ghost use lib.ListN.{length};
-ghost use Rattle.trace.specs.Reading.{checkOf};
+ghost use Rattle.trace.specs.Reading.{checkOf, toldInto, roomIn};
 ghost use Rattle.trace.specs.Steps.{stepTo, stepAt, stepOf};
 
 // 1 get, 2 insert, 3 remove, 4 clear, 5 peek; then page (1, 2, 3, 5) and frame (2).
@@ -212,4 +212,21 @@ pub extern "C" fn trace_offset(trace: &[u8]) -> u64
 {
     let c = check(trace);
     c.offset as u64
+}
+
+// All three in one pass, into the first three words of `out`: the operations, the refusal, the offset. Answers 1; or 0
+// where `out` has fewer than three words, and then nothing is written.
+#[no_mangle]
+pub extern "C" fn trace_check_all(trace: &[u8], out: &mut [u64]) -> u64
+    ensures into { λ _. ⌜ now (out .exit) ≡ toldInto (checkOf (now (trace .entry))) (now (out .entry)) ⌝ }
+    ensures room { λ r. ⌜ r ≡ roomIn (now (out .entry)) ⌝ }
+{
+    if out.len() < 3 {
+        return 0;
+    }
+    let c = check(trace);
+    out[0] = c.operations as u64;
+    out[1] = c.refusal as u64;
+    out[2] = c.offset as u64;
+    1
 }
