@@ -19,7 +19,9 @@ native_object() { # OUT FLAG.. FILE
 native_library() { # CRATE OUT
     local name=$1 made=$2
     if [ "$(uname -m)" = x86_64 ] && [ "${BENCH_WITH:-}" != module ]; then
-        (cd "$root" && rt staticlib "$name") >"$made.log" 2>&1 || { cat "$made.log" >&2; return 2; }
+        if older "$root/target/staticlib/lib$name.a" "$name"; then
+            (cd "$root" && rt staticlib "$name") >"$made.log" 2>&1 || { cat "$made.log" >&2; return 2; }
+        fi
         rm -rf "$made.d"
         mkdir -p "$made.d"
         (cd "$made.d" && ar x "$root/target/staticlib/lib$name.a" && ld -r -o "$made" ./*.o) || return 2

@@ -28,8 +28,7 @@ host_kit() {
 archive() {
     local made=$root/target/staticlib/libtrace.a log=$root/target/host/staticlib.log
     mkdir -p "$root/target/host"
-    if [ -f "$made" ] &&
-        [ -z "$(cd "$root" && find crates.txt crates/numbers crates/trace -newer "$made" -print -quit)" ]; then return 0; fi
+    if ! older "$made" trace; then return 0; fi
     (cd "$root" && rt staticlib trace) >"$log" 2>&1 || { cat "$log" >&2; return 2; }
 }
 

@@ -6,6 +6,7 @@
 #   need NAME..         what the command needs is there: rt, python3, cargo, cc, valgrind
 #   find_cc             sets the array cc: the words of CC, or cc, or gcc
 #   program NAME..      proves, compiles and links programs (target/bin/NAME), and says how far it is
+#   older FILE NAME     FILE has to be made again from the crates of NAME
 #   RUN                 (after `need rt`) the words in front of target/bin/NAME: the kit's emulator, if it has one, its
 #                       loader and its C library
 root=$(cd "$(dirname "$(readlink -f "${BASH_SOURCE[0]}")")/.." && pwd -P)
@@ -98,6 +99,12 @@ crates_of() { # NAME
     done
 }
 
+# older FILE NAME: FILE is not there, or a file of the crates that NAME is made of has changed since, as the clock tells
+older() {
+    # shellcheck disable=SC2046
+    [ ! -f "$1" ] || [ -n "$(cd "$root/crates" && find ../crates.txt $(crates_of "$2") -newer "$1" -print -quit)" ]
+}
+
 # Reads what `rt check` says, and says how far it is: the crates proved of all, and the time so far.
 progress() { # HOW-MANY
     local all=$1 done=0 line began=$SECONDS took shown=no
@@ -122,11 +129,7 @@ progress() { # HOW-MANY
 program() { # NAME..
     local name log stale=() all
     for name; do
-        # built since a file of its crates last changed, as far as the clock tells; rt looks at what they hold
-        if [ ! -x "$root/target/bin/$name" ] || [ ! -f "$root/target/log/made-$name" ] || [ -n "$(cd "$root/crates" &&
-            find ../crates.txt $(crates_of "$name") -newer "$root/target/log/made-$name" -print -quit)" ]; then
-            stale+=("$name")
-        fi
+        if [ ! -x "$root/target/bin/$name" ] || older "$root/target/log/made-$name" "$name"; then stale+=("$name"); fi
     done
     if [ ${#stale[@]} = 0 ]; then return 0; fi
     mkdir -p "$root/target/log"
