@@ -9,6 +9,7 @@ import random
 import re
 import subprocess
 import sys
+import traceback
 
 if sys.version_info < (3, 8):
     print('%s: this Python is older than 3.8' % os.path.basename(sys.argv[0]), file=sys.stderr)
@@ -125,6 +126,9 @@ def run(main, doc, *declare):
         status = said('%s: %s' % (e.filename or 'the output cannot be written', e.strerror or e), 2)
     except KeyboardInterrupt:
         status = 130
+    except Exception:  # a fault of the command itself: no verdict on what it was given
+        traceback.print_exc()
+        status = 2
     finish(status)
 
 

@@ -38,11 +38,12 @@ takes() {
     fi
 }
 
-# is_number WORD..: each is a number in decimal digits.
+# is_number WORD..: each is a number in decimal digits, below 10^18.
 is_number() {
     local word
     for word; do
         case $word in '' | *[!0-9]*) unable "${word:0:40} is no number; $me --help tells more" ;; esac
+        if [ ${#word} -gt 18 ]; then unable "${word:0:40} is too large a number; $me --help tells more"; fi
     done
 }
 
