@@ -179,19 +179,25 @@ def state(text):
     return ' | '.join(told)
 
 
+def told(counts, last):
+    """The line of a summary: the seven counts of a batch, and the last line of the program."""
+    gets, hits, updates, news, evictions, steps, removals = map(int, counts)
+    done = '%s operations' % last.split()[1] if last.startswith('end ') else 'before the refusal'
+    share = ' (%.1f %% of the gets)' % (100 * hits / gets) if gets else ''
+    text = '%s: gets %d, hits %d%s, updates %d, new pages %d, evictions %d, steps %d, removals %d'
+    return text % (done, gets, hits, share, updates, news, evictions, steps, removals)
+
+
 def summary(given, program):
     """The summary, from the counts of the program `pace`, and its last line as `replay` has it."""
     kind, capacity = given.head
     said = list(lines_of(program + [str(kind), str(capacity), '0'], given.data[given.start:]))
     if len(said) != 2 or not is_last(said[1]):
         raise Unable('no summary: the program pace ended before its last line')
-    gets, hits, updates, news, evictions, steps, removals = map(int, said[0].split())
-    first, *rest = said[1].split()
-    done = '%s operations' % rest[0] if first == 'end' else 'before the refusal'
-    share = ' (%.1f %% of the gets)' % (100 * hits / gets) if gets else ''
-    text = '%s: gets %d, hits %d%s, updates %d, new pages %d, evictions %d, steps %d, removals %d'
-    last = said[1] if first == 'end' else 'stop %s at %d' % (rest[0], int(rest[2]) + given.start)
-    return text % (done, gets, hits, share, updates, news, evictions, steps, removals), last
+    counts, last = said
+    if last.startswith('stop '):
+        last = 'stop %s at %d' % (last.split()[1], int(last.split()[3]) + given.start)
+    return told(counts.split(), last), last
 
 
 def only_summary(given):
@@ -208,7 +214,12 @@ def with_states(given):
     if len(given.data) > STATED:
         raise Unable('--states takes at most %d bytes, and these are %d' % (STATED, len(given.data)))
     case = bytes([0, len(given.data) % 256, len(given.data) // 256]) + given.data
-    return show(given, lines_of(*command.program('states'), case), state)
+    answers = lines_of(*command.program('states'), case)
+    last = show(given, answers, state)
+    if given.began(last):
+        sys.stdout.flush()
+        say(told(next(answers).split()[1:8], last))
+    return last
 
 
 def with_answers(given):
@@ -221,6 +232,8 @@ def with_answers(given):
 
 
 def main(asked):
+    if asked.file is None and (asked.input or asked.cache):
+        raise Unable('--arc C, --car C and --input are of a FILE; - is standard input')
     given = Given(asked.file or BUILT_IN, asked)
     if asked.summary:
         last = only_summary(given)
