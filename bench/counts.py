@@ -1,6 +1,6 @@
 #!/usr/bin/env python3
-"""counts.py KIND CAPACITY TRACE: what the program `pace` prints, by the list model: gets, hits, updates, new pages,
-evictions, steps, removals; then `end N` or `stop R at O`. KIND is 1 (ARC) or 2 (CAR)."""
+"""counts.py KIND CAPACITY TRACE: what the program `pace` prints with 0 repeats, by the list model: gets, hits, updates,
+new pages, evictions, steps, removals; then `end N` or `stop R at O`. KIND is 1 (ARC) or 2 (CAR)."""
 import os
 import sys
 

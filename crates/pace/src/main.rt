@@ -1,11 +1,12 @@
 // The program `pace`: how fast a batch is. Arguments KIND (1 ARC, 2 CAR), CAPACITY and REPEATS; operations on standard input, without a kind
-// byte and a capacity. The trace is read whole; then it is run that often, each time on a fresh cache, and the counts of the last run are
-// told on one line: gets, hits, updates, new pages, evictions, steps, removals. The last line is the replay program's: `end N` after N operations, or
-// `stop R at O`, and then the counts are those of the operations before byte O.
+// byte and a capacity. The trace is read whole; then it is run that often, each time on a fresh cache, and the counts of the
+// last run are told on one line: gets, hits, updates, new pages, evictions, steps, removals; or the refusal, `stop R at O`.
 //
 // An array has at most 524,288 elements, so the trace lies in eight, 4 MB together. Each holds whole operations: what a buffer has of an
 // operation that it cuts moves to the start of the next. An area is opened once in each run, as a batch does, and then run on every piece.
-// Where REPEATS is 0 a trace of any length is run once, while it is read: one buffer is filled again and again.
+// Where REPEATS is 0 a trace of any length is run once, while it is read: one buffer is filled again and again. The counts
+// are then told in any case, and after them the last line of the replay program: `end N` after N operations, or `stop R at
+// O`, where the counts are those of the operations before byte O.
 use batch::Counts;
 use batch::Ran;
 use batch::Tally;
@@ -497,17 +498,31 @@ fn tell_counts(n: Counts) {
     tell(n.removals, b"\n");
 }
 
-// The counts, and the last line of the replay program.
+// The refusal, as the replay program tells it.
+fn tell_stop(r: Run) {
+    io::write_all(STDOUT_FILENO, b"stop ");
+    tell(r.refusal as u64, b" at ");
+    tell(r.passed, b"\n");
+}
+
+// The counts, or the refusal.
 fn tell_run(r: Run) {
+    if r.refusal == 0 {
+        tell_counts(r.counts);
+        return;
+    }
+    tell_stop(r);
+}
+
+// The counts, and the last line of the replay program.
+fn tell_read(r: Run) {
     tell_counts(r.counts);
     if r.refusal == 0 {
         io::write_all(STDOUT_FILENO, b"end ");
         tell(r.done, b"\n");
         return;
     }
-    io::write_all(STDOUT_FILENO, b"stop ");
-    tell(r.refusal as u64, b" at ");
-    tell(r.passed, b"\n");
+    tell_stop(r);
 }
 
 // ---- the buffers: each function reads two, and hands them on
@@ -599,7 +614,7 @@ fn with_one(job: Job) {
     let mut area = area();
     let mut bytes = buffer();
     let last = run_input(&mut area, job, &mut bytes);
-    tell_run(last);
+    tell_read(last);
 }
 
 fn do_job(job: Job) {
