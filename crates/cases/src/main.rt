@@ -177,11 +177,21 @@ fn put_records(records: [Record; 1024], n: usize) {
     }
 }
 
+// How many records a listing wrote.
+fn listed(answer: Listed) -> usize {
+    match answer {
+        Listed::Count(n) => n as usize,
+        Listed::Room => 0,
+        Listed::Refused => 0,
+    }
+}
+
 // The pages that a listing gives.
 fn put_list(area: &[u64], kind: Kind) {
-    let plan = listing::prepare(area, kind, 1024);
-    let n = plan.count;
-    let records = listing::list_all(area, kind);
+    let all = listing::list_all(area, kind);
+    let answer = all.answer;
+    let records = all.records;
+    let n = listed(answer);
     telling::word(b"; list");
     put_records(records, n);
 }
@@ -710,6 +720,14 @@ fn try_listing(area: &[u64], name: &[u8], room: usize) {
     telling::word(b"\n");
 }
 
+fn try_list_all(area: &[u64], name: &[u8]) {
+    telling::word(name);
+    let all = listing::list_all(area, Kind::Car);
+    let answer = all.answer;
+    put_listed(answer);
+    telling::word(b"\n");
+}
+
 // One word less than the largest cache needs.
 fn short_words() -> [u64; 24639]
     ensures { λ r. ⌜ 24639 ≡ length r ⌝ }
@@ -777,6 +795,7 @@ fn strangers(area: &mut [u64], other: &mut [u64]) {
     strange_calls(area, other);
     strange_batch(area, other);
     try_listing(area, b"listing, an ARC area given to CAR: ", 9);
+    try_list_all(area, b"listing of all, an ARC area given to CAR: ");
     strange_numbers(area);
 }
 
@@ -839,10 +858,17 @@ fn two_residents(area: &mut [u64]) {
     CarCore::insert(area, 6, 11);
 }
 
+fn no_residents(area: &mut [u64]) {
+    make(area, Kind::Car, 3);
+    try_list_all(area, b"listing of all of an empty cache: ");
+}
+
 fn rooms(area: &mut [u64]) {
+    no_residents(area);
     two_residents(area);
     try_listing(area, b"listing of two residents into one record: ", 1);
     try_listing(area, b"listing of two residents into two records: ", 2);
+    try_list_all(area, b"listing of all two residents: ");
 }
 
 fn run(area: &mut [u64], other: &mut [u64]) {

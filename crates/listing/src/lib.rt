@@ -30,6 +30,12 @@ pub enum Listed {
     Refused,
 }
 
+// What a listing answers, and records of which it wrote so many.
+pub struct Listing {
+    pub answer: Listed,
+    pub records: [Record; 1024],
+}
+
 // What a listing answers, how many records it writes, and where the first resident stands.
 pub struct Plan {
     pub answer: Listed,
@@ -169,12 +175,11 @@ pub fn list(area: &[u64], kind: Kind, records: &mut [Record]) -> Listed
     p.answer
 }
 
-// A listing into records of its own, enough for every cache, which it gives back: its callers lend no records. What the listing answers, and
-// how many of the records it wrote, `prepare` tells, for as much room.
-pub fn list_all(area: &[u64], kind: Kind) -> [Record; 1024]
-    ensures { λ r. ⌜ ListingOutcome (policyOf kind) (now (area .entry)) blanks r (planOf kind (now (area .entry)) 1024 .answer) ⌝ }
+// A listing into records of its own, enough for every cache, which it gives back beside the answer: its callers lend no records.
+pub fn list_all(area: &[u64], kind: Kind) -> Listing
+    ensures { λ r. ⌜ ListingOutcome (policyOf kind) (now (area .entry)) blanks (r .records) (r .answer) ⌝ }
 {
     let mut records = [Record { page: 0, frame: 0 }; 1024];
-    list(area, kind, &mut records);
-    records
+    let answer = list(area, kind, &mut records);
+    Listing { answer, records }
 }

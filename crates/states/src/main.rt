@@ -4,6 +4,7 @@
 use answers::Inserted;
 use answers::Reply;
 use batch::Counts;
+use listing::Listed;
 use listing::Record;
 use numbers::Frame;
 use rules::Kind;
@@ -477,10 +478,20 @@ fn put_records(records: [Record; 1024], n: usize) {
     }
 }
 
+// How many records a listing wrote.
+fn listed(answer: Listed) -> usize {
+    match answer {
+        Listed::Count(n) => n as usize,
+        Listed::Room => 0,
+        Listed::Refused => 0,
+    }
+}
+
 fn put_list(area: &[u64], kind: Kind) {
-    let plan = listing::prepare(area, kind, 1024);
-    let n = plan.count;
-    let records = listing::list_all(area, kind);
+    let all = listing::list_all(area, kind);
+    let answer = all.answer;
+    let records = all.records;
+    let n = listed(answer);
     telling::field(b"list ", n as u64);
     put_records(records, n);
     telling::word(b"\n");
