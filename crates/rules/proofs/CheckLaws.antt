@@ -1,5 +1,5 @@
--- The tests of the state check hold exactly of the well-formed states.
--- Assumes nothing.
+-- The tests of a state (specs/Check) hold exactly of the well-formed states. The check of an area, for any words, is another:
+-- crate state_check. Assumes nothing.
 use mathlib.Core.Path.{_≡_, refl, sym, subst, ap, _∙_}
 use mathlib.Core.List.{List, [], _∷_, _++_, map}
 use mathlib.Core.Logic.{_↔_}

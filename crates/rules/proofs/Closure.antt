@@ -1,6 +1,5 @@
--- Closure: every call on a well-formed state leaves a well-formed state, both policies, any page and frame, capacities 0 to 1,024; and so does
--- every run of calls, every batch and every public call. `new` makes one.
--- Assumes nothing.
+-- Closure: `new` makes a well-formed state, every call on a well-formed state leaves one, and so does every run of calls: both
+-- policies, any page and frame, capacities 0 to 1,024. Assumes nothing.
 use mathlib.Core.List.{List, [], _∷_}
 use Prim.Native.Nat.{ℕ, _≤_}
 use Rattle.rules.specs.Lists.{Each}
