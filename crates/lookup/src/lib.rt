@@ -2,12 +2,12 @@
 //
 //     | page 0 | .. | page m - 1 | next 0 | prev 0 | next 1 | prev 1 | .. |
 //
-// with links of m + k cells: the cells below m are the places, the cells from m on the sentinels of k buckets. A bucket is a ring whose
-// places stand in strictly rising order of their pages. It keeps no count: a walk ends at a cell that is no place. A place
-// in no bucket is dead: it stands before itself.
+// with links of m + k cells: the cells below m are the places, the cells from m on the sentinels of k buckets. A bucket
+// is a ring whose places stand in strictly rising order of their pages. It keeps no count: a walk ends at a cell that
+// is no place. A place in no bucket is dead: it stands before itself.
 //
-// Callers know of `look` (specs/Lookup.antt) and of the laws of proofs/Look.antt: that it is a plain search of the places held. No answer
-// shows a bucket.
+// Callers know of `look` (specs/Lookup.antt) and of the laws of proofs/Look.antt: that it is a plain search of the
+// places held. No answer shows a bucket.
 ghost use mathlib.Core.Path.{_≡_};
 ghost use Prim.Native.Nat.{_+_, _*_, _<_, _≤_};
 ghost use lib.ListN.{length};
@@ -20,7 +20,8 @@ ghost use Rattle.lookup.specs.Part.{pageOf, linksOf, Room};
 ghost use Rattle.lookup.specs.Lookup.{findOf, look, placeOr, CanFind};
 ghost use Rattle.lookup.specs.Changes.{unlinked, handedOver, deadened, cleared, blank, putIn, taken, renamed, made, CanPut, CanTake, CanRename, CanReach, CanBlank};
 
-// About how often k goes into x, where `inverse` is about 2^32 / k. Nothing is said of it but that it is small.
+// About how often k goes into x, where `inverse` is about 2^32 / k. The contract only bounds it; callers verify the
+// quotient.
 fn quotient(inverse: usize, x: usize) -> usize
     requires { ⌜ x < 4294967296 ⌝ }
     ensures { λ r. ⌜ r < 4294967296 ⌝ }
@@ -28,8 +29,13 @@ fn quotient(inverse: usize, x: usize) -> usize
     x * (inverse % 4294967296) / 4294967296
 }
 
-// The bucket of the page p, one of k. `inverse` is a hint, 2^32 / k: where p and k are below 2^32, `quotient` is then the quotient or one less,
-// and the remainder comes without a division. Any other number gives the same answer, only slower. Where the hint is wrong the difference may wrap: it is then too large for both tests.
+// The bucket of the page p, one of k. `inverse` is a hint, 2^32 / k: where p and k are below 2^32, `quotient` is then
+// the quotient or one less, and the remainder comes without a division. Any other number gives the same answer, only
+// slower.
+//
+// The difference may wrap, and one test, r < k, then tells both that the multiple was not past the page and that r is
+// the remainder, since r + q k stays below 2^64 (`no-wrap`): two branches fewer than a test of each, 2 to 4 % of a hit
+// (D66). Without the hint each lookup had a 64-bit division: 6 to 15 % of a batch's time (D60).
 pub fn bucket_of(k: usize, inverse: usize, p: u64) -> usize
     requires { ⌜ 0 < k ⌝ }
     ensures { λ r. ⌜ r ≡ bucketOf k p ⌝ }
@@ -51,7 +57,8 @@ pub fn bucket_of(k: usize, inverse: usize, p: u64) -> usize
     x % k
 }
 
-// A number of buckets, and what a page's belonging is told by without a division: what 2^22 and 2^44 are more than multiples of k, and how often k goes into 2^40.
+// A number of buckets, and what `belongs` needs to do without a division: the remainders of 2^22 and 2^44 by k, and how
+// often k goes into 2^40.
 pub struct Divisor {
     pub k: usize,
     pub near: usize,
@@ -74,7 +81,8 @@ pub fn divisor_of(k: usize) -> Divisor
     }
 }
 
-// A smaller number with the bucket of x: x in three digits of 22 bits, with `near` for 2^22 and `far` for 2^44.
+// A smaller number with the bucket of x: x in three digits of 22 bits, with `near` for 2^22 and `far` for 2^44. It is
+// so small that a product with 2^40 / k gives the quotient for all but a few pages.
 fn fold(d: Divisor, x: usize) -> usize
     requires { ⌜ Divides d ⌝ }
     ensures { λ r. ⌜ Folded d x r ⌝ }
@@ -85,8 +93,13 @@ fn fold(d: Divisor, x: usize) -> usize
     a + b + x % 4194304
 }
 
-// Whether the page p belongs to bucket b. No remainder is computed: a guessed quotient q is held against q * k + b. It takes the same steps for any page; only
-// where the guess is wrong, which it is for the fewest pages of a bucket, there is a division.
+// Whether the page p belongs to bucket b. No remainder is computed: a guessed quotient q is held against q * k + b. It
+// takes the same steps for any page; on the few pages where the guess is wrong it divides.
+//
+// For the state check (D68). With `bucket_of` in its place the check takes 4.4 to 5.5 sums where it now takes 3.8 to
+// 3.9: more steps, and a division for pages of 2^32 or more. A shorter way for pages below 2^32 beside this one was a
+// tenth faster for these and a tenth slower for the others. An inverse modulo 2^64 needs a product that wraps: the
+// language has none.
 pub fn belongs(d: Divisor, b: usize, p: u64) -> bool
     requires { ⌜ Divides d × (b < d .k) ⌝ }
     ensures { λ r. ⌜ r ≡ eqb (bucketOf (d .k) p) b ⌝ }
@@ -149,7 +162,8 @@ pub fn dead(w: &[u64], m: usize, x: usize) -> bool
     prev_of(w, m, x) == x
 }
 
-// The first place of p's bucket whose page is not below p, or the bucket's sentinel: where p is, or before which it belongs.
+// The first place of p's bucket whose page is not below p, or the bucket's sentinel: where p is, or before which it
+// belongs.
 pub fn find(w: &[u64], m: usize, k: usize, inverse: usize, p: u64) -> usize
     requires { ⌜ CanFind (now w) m k p ⌝ }
     ensures { λ r. ⌜ r ≡ findOf (now (w .entry)) m k p ⌝ }
@@ -216,7 +230,8 @@ fn hand_over(l: &mut [u64], x: usize, y: usize)
     cells::set_prev(l, x, x);
 }
 
-// The page of the place x is now at the dead place y, where x stood; x is dead. There is no walk, and no bucket is computed.
+// The page of the place x is now at the dead place y, where x stood; x is dead. There is no walk, and no bucket is
+// computed.
 pub fn rename(w: &mut [u64], m: usize, x: usize, y: usize)
     requires { ⌜ CanRename (now w) m x y ⌝ }
     ensures { λ _. ⌜ now (w .exit) ≡ renamed m x y (now (w .entry)) ⌝ }
@@ -259,7 +274,8 @@ fn wipe(l: &mut [u64], m: usize, k: usize)
     clear(l, m, k);
 }
 
-// Every place is dead and every bucket empty, whatever the words were. The pages stay as they are: nothing reads the page of a dead place.
+// Every place is dead and every bucket empty, whatever the words were. The pages stay as they are: nothing reads the
+// page of a dead place.
 pub fn make(w: &mut [u64], m: usize, k: usize)
     requires { ⌜ Room (now w) m k ⌝ }
     ensures { λ _. ⌜ now (w .exit) ≡ made m k (now (w .entry)) ⌝ }

@@ -63,12 +63,12 @@ pub record Holding (w : List ℕ) (m k live : ℕ) : Type 0 where
   pub table : Lookup w m k
   pub count : length (placesIn w m k) ≡ live
 
--- A BUCKET OF ONE PLACE OR NONE: the cell x stands both after and before the sentinel of bucket b. What it shows for a page: a place its page p; a sentinel
--- the number of its bucket, which belongs to that bucket and to no other
+-- A BUCKET OF ONE PLACE OR NONE: the cell x stands both after and before the sentinel of bucket b. The page to test for x: of a place
+-- its page p; of a sentinel the number of its bucket, which belongs to that bucket and to no other
 unfoldable pub shownPage : ℕ → ℕ → ℕ → ℕ
 shownPage m x p = cond (ltb x m) p (x - m)
 
--- how many places x is
+-- 1 where x is a place, 0 where it is a sentinel
 unfoldable pub placesAt : ℕ → ℕ → ℕ
 placesAt m x = cond (ltb x m) 1 0
 

@@ -1,11 +1,20 @@
-// The exact test of a lookup, for any words with room for it: whether every bucket is a ring in strictly rising order of pages, with every page in
-// the bucket that it belongs to, and the buckets together hold so many places. Apart from `lookup` so that both check quickly.
+// The exact test of a lookup, for any words with room for it: whether every bucket is a ring in strictly rising order
+// of pages, with every page in the bucket that it belongs to, and the buckets together hold so many places. Apart from
+// `lookup` so that both check quickly.
 //
-// Each bucket is walked once. Each link is held against the link back, and there is a budget of places for all buckets together, so that the
-// test is linear in m + k whatever the words are.
+// Each bucket is walked once. Each link is held against the link back, and there is a budget of places for all buckets
+// together, so that the test is linear in m + k whatever the words are.
 //
-// Most of the time would go into guesses of the processor that fail: whether a bucket is empty, and how long it is. So a bucket of one place or none has no branch of its
-// own for either, and whether it has more is told by its sentinel alone, which the loop reads in order: its first cell is then not its last.
+// Branch mispredictions would dominate: whether a bucket is empty, and how long it is. After a run the lengths come in
+// no order, and with cold branch predictors nearly half of the time went there (5.8 and 6.7 sums, of which 3.8 to 4.5
+// are left). So a bucket of one place or none has no branch of its own (`alone`), and whether it has more is told by
+// its sentinel alone, which the loop reads in order: its first cell is then not its last. A longer walk ends at the
+// place before the sentinel, which is known from the start; it can end well nowhere else, since pages rise
+// (`last-strays`).
+//
+// Tried, as programs in C, and left: every place tested for itself by its links both ways (no faster: as many branches,
+// more steps); buckets of two places without a branch too (more steps than the mispredictions saved); the longer
+// buckets put aside and walked after the others (6 % faster where lengths are random, slower elsewhere). D67.
 use lookup::Divisor;
 ghost use mathlib.Core.Path.{_≡_};
 ghost use Prim.Native.Nat.{_≤_};
@@ -18,8 +27,8 @@ pub enum Rest {
     Bad,
 }
 
-// The walk of bucket b after its place a, with a budget of so many places. z is the cell before the sentinel: the walk ends well only there. p is the page
-// of the place that is come to. d has the number k of buckets, here and below.
+// The walk of bucket b after its place a, with a budget of so many places. z is the cell before the sentinel: the walk
+// ends well only there. p is the page of `cur`. d has the number k of buckets, here and below.
 fn walk_on(w: &[u64], m: usize, d: Divisor, b: usize, z: usize, most: usize, a: usize) -> Rest
     requires { ⌜ CanGoOn (now w) m d b z a ⌝ }
     ensures { λ r. ⌜ r ≡ walkFrom (now (w .entry)) m (d .k) b most a ⌝ }
@@ -83,22 +92,24 @@ fn walk(w: &[u64], m: usize, d: Divisor, b: usize, most: usize, x: usize, z: usi
     }
 }
 
-// What the cell x shows for a page, p being its page where it is a place.
+// The page to test for cell x, p being its page where it is a place; for a sentinel, its bucket's number.
 fn shown(m: usize, x: usize, p: u64) -> u64
     ensures { λ r. ⌜ r ≡ shownPage m x p ⌝ }
 {
     if x < m { p } else { (x - m) as u64 }
 }
 
-// How many places the cell x is.
+// 1 where the cell x is a place, 0 where it is a sentinel.
 fn places(m: usize, x: usize) -> usize
     ensures { λ r. ⌜ r ≡ placesAt m x ⌝ }
 {
     if x < m { 1 } else { 0 }
 }
 
-// Whether x, the cell that stands both first and last in bucket b, is alone in it: a place of the bucket, or the sentinel itself. All is read before anything is
-// tested: whether x is a place or not is then no branch.
+// Whether x, the cell that stands both first and last in bucket b, is alone in it: a place of the bucket, or the
+// sentinel itself. All is read before anything is tested, so that whether x is a place makes no branch: the words of x
+// can be read either way, since a sentinel's number is an index of the part too, and a sentinel of another bucket does
+// not belong to this one (`sentinel-home`).
 fn alone(w: &[u64], m: usize, d: Divisor, b: usize, x: usize) -> bool
     requires { ⌜ CanWalk (now w) m d b ⌝ }
     ensures { λ r. ⌜ r ≡ aloneTest (now (w .entry)) m (d .k) b x ⌝ }

@@ -1,10 +1,11 @@
 // The residents of a cache of capacity c in their part of the area. A slot holds a resident or is free.
 //
-//     | count T1 | count T2 | count free | frame 0 .. | list 0 .. | bit 0 .. | slot 0 | .. | slot c-1 | T1 | T2 | free |
+//     | count T1 | count T2 | count free | frame 0 .. | list 0 .. | bit 0 .. | slot 0 .. slot c-1 | T1 | T2 | free |
 //
-// After three counts and three arrays of c words come the links of the slots and of the sentinels of three rings. Lists are numbered,
-// 0 for T1, 1 for T2 and 2 for the free slots, so that T1 and T2 are served by the same code. Pages stand elsewhere: whoever calls keeps
-// the page of each slot. How a change of the words changes the three lists is said by the laws of proofs/Moves.antt.
+// After three counts and three arrays of c words come the links of the slots and of the sentinels of three rings. Lists
+// are numbered, 0 for T1, 1 for T2 and 2 for the free slots, so that T1 and T2 are served by the same code. Pages stand
+// elsewhere: whoever calls keeps the page of each slot. How a change of the words changes the three lists is said by
+// the laws of proofs/Moves.antt.
 ghost use mathlib.Core.Path.{_≡_};
 ghost use Prim.Native.Nat.{_+_, _*_, _<_};
 ghost use Rattle.tails.specs.Tails.{withTail};
@@ -23,7 +24,8 @@ pub fn count(w: &[u64], c: usize, i: usize) -> usize
     w[i] as usize
 }
 
-// The first slot of list i, where it has one: of T1 and T2 the newest, or that at the hand; of the free slots the one taken next.
+// The first slot of list i, where it has one: of T1 and T2 the newest, or that at the hand; of the free slots the one
+// taken next.
 pub fn first(w: &[u64], c: usize, i: usize) -> usize
     requires { ⌜ HasList (now w) c i ⌝ }
     ensures { λ r. ⌜ r ≡ nextOf (linksOf c (now (w .entry))) (c + i) ⌝ }
@@ -104,8 +106,9 @@ fn set_slot(w: &mut [u64], c: usize, e: usize, f: u64, i: usize, b: u64)
     set_bit(w, c, e, b);
 }
 
-// A slot goes from list i to list j: the counts. Where it stays in its list, as most that are hit do, they stay too (D61
-// of docs/DECISIONS.md).
+// The counts, where a slot goes from list i to list j. Where it stays in its list, as most that are hit do, they stay
+// too: a hit in T2 took one from a count and put it back, two stores to one word, each waiting for the one before.
+// Worth a seventh of a hit where all pages are in T2, and nothing measurable elsewhere (D61).
 fn recount(w: &mut [u64], c: usize, i: usize, j: usize)
     requires { ⌜ CanRecount (now w) c i j ⌝ }
     ensures { λ _. ⌜ now (w .exit) ≡ recounted i j (now (w .entry)) ⌝ }
@@ -139,7 +142,8 @@ fn shift_end(w: &mut [u64], c: usize, i: usize, j: usize, e: usize)
     tails::to_end(w, a, s, e);
 }
 
-// The resident of slot e comes to the front of T2. Where it is there already, nothing is written.
+// The resident of slot e comes to the front of T2. Where it is there already, nothing is written (`promote-stays`):
+// worth 8 to 12 % of ARC's time on hits (D65).
 pub fn promote(w: &mut [u64], c: usize, e: usize)
     requires { ⌜ IsResident (now w) c e ⌝ }
     ensures { λ _. ⌜ now (w .exit) ≡ promoted c e (now (w .entry)) ⌝ }
@@ -194,8 +198,8 @@ pub fn add_end(w: &mut [u64], c: usize, j: usize, f: u64, b: u64) -> usize
     e
 }
 
-// The resident of slot e leaves, and a new one comes in its slot, at the front of list j: what `free` and then `add_front` leave, without the
-// way through the free slots.
+// The resident of slot e leaves, and a new one comes in its slot, at the front of list j: what `free` and then
+// `add_front` leave, word for word (`shifted-through`), without the way through the free slots.
 pub fn exchange_front(w: &mut [u64], c: usize, e: usize, j: usize, f: u64, b: u64)
     requires { ⌜ CanExchange (now w) c e j ⌝ }
     ensures { λ _. ⌜ now (w .exit) ≡ addedFront c j f b (freed c e (now (w .entry))) ⌝ }
@@ -282,7 +286,8 @@ fn check_slot(w: &[u64], c: usize, i: usize, e: usize) -> bool
     }
 }
 
-// Whether a slot stands after the cell a, and whether one stands before the cell b, by both links, and holds a resident of list i.
+// Whether a slot stands after the cell a, and whether one stands before the cell b, by both links, and holds a resident
+// of list i.
 fn slot_leads(w: &[u64], c: usize, i: usize, a: usize) -> bool
     requires { ⌜ CanStep (now w) c a ⌝ }
     ensures { λ r. ⌜ r ≡ ahead (linksOf c (now (w .entry))) c (slotTest (now (w .entry)) c i) a ⌝ }
@@ -313,7 +318,8 @@ fn slot_trails(w: &[u64], c: usize, i: usize, b: usize) -> bool
     check_slot(w, c, i, y)
 }
 
-// Whether list i is a ring with as many slots as counted, each of which holds a resident of it. As `rings::check`: it is walked from both ends at once.
+// Whether list i is a ring with as many slots as counted, each of which holds a resident of it. As `rings::check`: it
+// is walked from both ends at once.
 fn check_side(w: &[u64], c: usize, i: usize) -> bool
     requires { ⌜ HasList (now w) c i × (i < 2) ⌝ }
     ensures { λ r. ⌜ r ≡ sideTest (now (w .entry)) c i ⌝ }

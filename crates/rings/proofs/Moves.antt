@@ -1,6 +1,6 @@
 -- The laws of the changes that are made of a detach and an insert: to the front, to the end, in the place of another. In order: the lists; lengths;
 -- what a move asks; what it does to the ring it comes to, to the ring it left, and to any other.
--- The ring that is come to is read after the detach, so that it may be the one that was left.
+-- The ring that the cell joins is read after the detach, so that it may be the one that it left.
 -- Assumes nothing.
 use mathlib.Core.Path.{_≡_, refl, sym, ap, _∙_}
 use mathlib.Core.Bool.{Bool, true, false, cond}
