@@ -1,6 +1,6 @@
 /* plain_cache arc|car C TIMES FILE: replays a trace that often from a fresh cache and prints the counts of the last replay and the nanoseconds an operation took, the
  * least over the replays: operations, gets, get hits, updates, new pages, evictions, steps, removals that found their page.
- * A plain C cache by 01's rules, which the batch is held against: entries linked into their list and into their bucket, no tricks. */
+ * A plain C cache by the rules, which the batch is held against: entries linked into their list and into their bucket, no tricks. */
 #include <stdint.h>
 #include <stdio.h>
 #include <stdlib.h>

@@ -1,4 +1,4 @@
-/* A plain C reader of traces: the checks of 01, one function to a number and one to an operation, no tricks. */
+/* A plain C reader of traces: the checks of RULES 8, one function to a number and one to an operation, no tricks. */
 #include "plain_reader.h"
 
 struct operation {

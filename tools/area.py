@@ -1,6 +1,6 @@
 """Areas by docs/LAYOUT.md: writes the words of a state, and tells whether words are a writing of a well-formed state.
 
-Written from LAYOUT.md and from document 01's state rules alone, so that the proved check can be held against it.
+Written from docs/LAYOUT.md and from the state rules (RULES 2) alone, so that the proved check can be held against it.
 """
 WORD = 2 ** 64
 

@@ -1,4 +1,4 @@
-"""ARC and CAR by plain lists, written from document 01 alone, with the trace format and the program's lines.
+"""ARC and CAR by plain lists, written from docs/RULES.md alone, with the trace format and the program's lines.
 
 It shares nothing with the Rattle code or its definitions, so that they can be held against it. What the published algorithms do
 otherwise is a switch of `Rules`, each on its own, so that `differences` can search for the shortest trace that shows it.

@@ -1,4 +1,4 @@
-//! The calls of a cache and their answers, in document 01's words.
+//! The calls of a cache and their answers, in the words of docs/RULES.md.
 use crate::state::State;
 use crate::trace::Operation;
 use std::fmt;

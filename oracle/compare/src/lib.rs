@@ -1,4 +1,4 @@
-//! What the programs of the oracle share. `trace` and `model` are written from document 01 alone; `rust` is the excerpts behind the same calls; `state` is
+//! What the programs of the oracle share. `trace` and `model` are written from docs/RULES.md alone; `rust` is the excerpts behind the same calls; `state` is
 //! what both are compared by; `program` makes the lines and states of a run; `cases` and `random` make inputs; `agree` runs both sides in step.
 pub mod agree;
 pub mod calls;

@@ -1,4 +1,4 @@
-//! ARC and CAR by plain lists, from document 01 alone. Names and order are 01's; nothing here knows the Rust.
+//! ARC and CAR by plain lists, from docs/RULES.md alone. Names and order are those of docs/RULES.md; nothing here knows the Rust.
 use crate::calls::{Answer, Cache, Called, Counts, Victim, ARC, CAR};
 use crate::state::{Resident, State};
 use crate::trace::Operation;
@@ -6,7 +6,7 @@ use crate::trace::Operation;
 /// How far a ghost hit moves the target.
 #[derive(Clone, Copy, PartialEq, Eq)]
 pub enum Step {
-    /// 01: always 1.
+    /// RULES 5.11: always 1.
     One,
     /// The excerpt of CAR: the other ghost list's length by the hit one's, rounded down, at least 1.
     Quotient,

@@ -1,4 +1,4 @@
-//! The lines of document 01's program, and the output of the test program `states` (oracle/README.md), from any cache.
+//! The lines of the program of RULES 9, and the output of the test program `states` (oracle/README.md), from any cache.
 use crate::calls::{Cache, Called, Counts, ARC, CAR};
 use crate::state::State;
 use crate::trace::{frame, next, Next, Operation};

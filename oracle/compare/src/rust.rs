@@ -1,4 +1,4 @@
-//! The excerpts behind the calls of document 01. What the Rust does not answer is taken from it otherwise: an insert's victim is the page that is resident
+//! The excerpts behind the calls of docs/RULES.md. What the Rust does not answer is taken from it otherwise: an insert's victim is the page that is resident
 //! before and not after; its steps are the Rust's own metrics, replacements for ARC and hand sweeps for CAR.
 use crate::calls::{Answer, Cache, Called, Counts, Victim, ARC, CAR};
 use crate::state::{Resident, State};
@@ -103,13 +103,13 @@ car_excerpt!(car_step_1);
 #[derive(Clone, Copy, PartialEq, Eq)]
 pub enum Side {
     Arc,
-    /// CAR with the step set to 1, as 01 has it.
+    /// CAR with the step set to 1, as RULES 5.11 has it.
     CarStep1,
     /// CAR as published.
     CarExcerpt,
 }
 
-/// The side that document 01 is compared with.
+/// The side that the rules are compared with.
 pub fn side_of(kind: u8) -> Side {
     if kind == ARC {
         Side::Arc

@@ -1,4 +1,4 @@
-//! Document 01, "Trace bytes": the reading and the writing of operations.
+//! RULES 8: the reading and the writing of operations.
 
 #[derive(Clone, Copy, Debug, PartialEq, Eq)]
 pub enum Operation {

@@ -1,4 +1,4 @@
-//! The ghost list by document 01, "Ghost list": the published file is not at hand. Newest first, at most as many pages as the capacity. Recording puts a page
+//! The ghost list by RULES 4: the published file is not at hand. Newest first, at most as many pages as the capacity. Recording puts a page
 //! at the front; if the list was full, its oldest is dropped; with capacity 0 nothing is kept. Removing an absent page and dropping the oldest of an
 //! empty list do nothing.
 //!

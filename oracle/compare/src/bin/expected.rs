@@ -1,4 +1,4 @@
-//! The known difference of the excerpt of CAR from document 01: `adapt` moves the target by the quotient of the ghost lists' lengths, where 01 has 1. Runs the
+//! The known difference of the excerpt of CAR from docs/RULES.md: `adapt` moves the target by the quotient of the ghost lists' lengths, where the rules have 1. Runs the
 //! excerpt beside its copy with the step set to 1 and checks that a difference always begins at an insert of a ghost page where that quotient is above 1, and
 //! nowhere else. Each of the two is held against the list model with its own rule for the step, call by call, so that the step is the only rule in which they differ.
 use compare::agree::Pair;
@@ -166,14 +166,14 @@ fn named() {
     let first = differs.iter().position(|&differ| differ != Differ::Nowhere);
     let [excerpt, step_1] = both.states();
     if first != Some(6) || differs[6] != Differ::InState || (excerpt.target, step_1.target) != (0, 1) {
-        failed("insert 1, 2, 3, 1, 4, 5, 1 at capacity 2 does not show target 0 in the excerpt and 1 by 01".to_string());
+        failed("insert 1, 2, 3, 1, 4, 5, 1 at capacity 2 does not show target 0 in the excerpt and 1 by the rules".to_string());
     }
     for next in [2, 6] {
         let (_, a, b, differs) = run(2, &[1, 2, 3, 1, 4, 5, 1, next]);
         if differs.last() != Some(&Differ::InLine) {
             failed(format!("insert {next} after it shows no other line"));
         }
-        println!("expected: capacity 2, insert 1, 2, 3, 1, 4, 5, 1: target 0 in the excerpt and 1 by 01; then insert {next}: `{a}` in the excerpt and `{b}` by 01");
+        println!("expected: capacity 2, insert 1, 2, 3, 1, 4, 5, 1: target 0 in the excerpt and 1 by the rules; then insert {next}: `{a}` in the excerpt and `{b}` by the rules");
     }
 }
 

@@ -1,4 +1,4 @@
-//! Document 01's program by the excerpts, each call compared with the list model.
+//! The program of RULES 9 by the excerpts, each call compared with the list model.
 use compare::agree::replay;
 use std::io::{Read, Write};
 
