@@ -1,6 +1,6 @@
 /* check FILE..: for each area, nanoseconds of a plain sum over its words, of a sum word by word, of the state check, of `new` and, on an area of ARC, of one
  * public call, a get that hits: medians over rounds, and the ratios to the plain sum, with the quartiles of the ratios of the rounds. In a round they are timed one after
- * the other. Then the same areas in turn, one call each: a processor that has seen one area a thousand times has learnt its branches by heart, and a check in use has not.
+ * the other. Then the same areas in turn, one call each, with cold branch predictors.
  * check once|twice|none WHAT FILE: one or two calls, or none, of sum, scalar, check, new or get, for an instruction count. */
 #include <stdint.h>
 #include <stdio.h>
@@ -125,7 +125,7 @@ static int in_turn(int count, char **names_of)
     }
     for (int turn = 0; turn < TURNS; turn++)
         for (int i = 0; i < many; i++) {
-            seen += plain_sum(areas[i], largest); /* the words come near first */
+            seen += plain_sum(areas[i], largest); /* warm the cache */
             double began = now();
             seen += plain_sum(areas[i], largest);
             double between = now();

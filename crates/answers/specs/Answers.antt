@@ -1,4 +1,4 @@
--- 01's number and values for each case of the code's answers. Assumes nothing.
+-- The rules' number and values for each case of the code's answers. Assumes nothing.
 use mathlib.Core.Bool.{cond}
 use Prim.Native.Nat.{ℕ}
 use lib.Dec.{eqb}

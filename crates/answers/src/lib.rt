@@ -1,5 +1,6 @@
-// What the calls on a cache answer, the same for both policies: one enum for each kind of answer. `specs/Answers` gives 01's number and
-// values for each case. `Refused` is refusal 3: the area is not well formed for the policy. An inner call never gives it.
+// What the calls on a cache answer, the same for both policies: one enum for each kind of answer. `specs/Answers` gives
+// the rules' number and values for each case. `Refused` is refusal 3: the area is not well formed for the policy. An
+// inner call never gives it.
 ghost use mathlib.Core.Path.{_≡_};
 ghost use Rattle.answers.specs.Answers.{placeIs, placeOfList};
 

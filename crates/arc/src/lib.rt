@@ -1,5 +1,5 @@
-// ARC (01, "ARC"; src/policy/arc.rs): what the rules of ARC have of their own in an insert: the ghost lists are trimmed before a plain miss, and the oldest is the
-// victim. The calls stand in `cache`.
+// ARC (RULES 5; src/policy/arc.rs): what only ARC has in an insert: ghost lists are trimmed before a plain miss, and the
+// oldest is the victim. The calls are in `cache`.
 use common::Victim;
 ghost use mathlib.Core.Path.{_≡_};
 ghost use Prim.Native.Nat.{_+_, _<_};

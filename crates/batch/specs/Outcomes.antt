@@ -1,4 +1,4 @@
--- What a batch answers, counts and leaves (01, "Listings and counts"). Assumes nothing.
+-- What a batch answers, counts and leaves (RULES 7). Assumes nothing.
 use mathlib.Core.Path.{_≡_}
 use mathlib.Core.List.{List}
 use mathlib.Core.Option.{none}
@@ -20,7 +20,7 @@ use Rattle.batch.specs.declared.Ran.{Ran}
 use Rattle.batch.specs.declared.Ran.the-variants as ran
 use Rattle.batch.specs.declared.Tally.{Tally}
 
--- ---- 01's counts, and its number and values for each case of the answer
+-- ---- the rules' counts, and their number and values for each case of the answer
 abbrev pub countsIs : Counts → counting.Counts
 countsIs n = counting.counts (n .gets) (n .«get_hits») (n .updates) (n .«new_pages») (n .evictions) (n .steps) (n .removals)
 
@@ -53,12 +53,13 @@ module _ (P : Policy) where
     pub size : length v ≡ length w
     pub rest : drop (endAt c) v ≡ drop (endAt c) w
 
-  -- what a batch answers, the area that it leaves and its counts, as 01's rules have them
+  -- what a batch answers, the area that it leaves and its counts, as the rules have them
   abbrev pub outcome : Answer → List ℕ → Counts → BatchDone (P .State)
   outcome a v n = record { answer = a; area = reads P v; counts = countsIs n }
 
-  -- THE CONTRACT of a public batch of a trace on any words w, with the counts `lent`: it answers a, leaves v and the counts n. By 01's rules for what w reads as, a
-  -- refusal 3 and no state included; words past the need of the cache are as they were, and after a refusal 3 all are, and the counts.
+  -- THE CONTRACT of a public batch of a trace on any words w, with the counts `lent`: it answers a, leaves v and the
+  -- counts n. By the rules for what w reads as, a refusal 3 and no state included; words past the need of the cache are
+  -- as they were, and after a refusal 3 all are, and the counts.
   pub record BatchOutcome (trace : List ℕ) (lent : Counts) (w v : List ℕ) (a : Answer) (n : Counts) : Type 0 where
     pub is : outcome a v n ≡ batched (P .does) trace (countsIs lent) (reads P w)
     pub size : length v ≡ length w

@@ -1,4 +1,4 @@
--- What 01 says of a batch. Assumes nothing.
+-- What the rules say of a batch. Assumes nothing.
 use mathlib.Core.List.{List}
 use Prim.Native.Nat.{ℕ}
 use Rattle.rules.specs.Calls.{Answer, Refused}
@@ -10,7 +10,8 @@ use Rattle.batch.specs.Outcomes.{countsIs}
 use Rattle.batch.specs.declared.Counts.{Counts}
 
 module _ (P : Policy) (trace : List ℕ) where
-  -- "the operations done, or the refusal", and "this batch's" counts, on the state t; the state that it leaves
+  -- "the operations done, or the refusal" (RULES 7.4), and "this batch's" (RULES 7.5) counts, on the state t; the
+  -- state that it leaves
   abbrev pub gives : P .State → Answer × counting.Counts
   gives t = let b = batch (P .does) 0 trace t in (answerOf b, b .counts)
 

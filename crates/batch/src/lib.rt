@@ -1,6 +1,7 @@
-// A batch: a whole trace run on one area (01, "Listings and counts"). The area is checked once, and every operation is an inner call. A
-// record of counts says what this batch did; after a refusal 4 or 5 the operations before it are counted.
-// `run` is the inner form; `tally_up` and `batch` take any words, the one with counts by value, the other with a lent record of them.
+// A batch: a whole trace run on one area (RULES 7). The area is checked once, and every operation is an inner call. A
+// record of counts says what this batch did; after a refusal 4 or 5 the operations before it are counted. `run` is the
+// inner form; `tally_up` and `batch` take any words, the one with counts by value, the other with a lent record of
+// them.
 use answers::Gone;
 use answers::Got;
 use answers::Inserted;

@@ -82,7 +82,7 @@ pub fn insert(a: &mut [u64], c: usize, kind: Kind, x: u64, f: u32) -> Inserted
     }
 }
 
-// The page x leaves; no ghost list is told.
+// The page x leaves; ghost lists are unchanged.
 pub fn remove(a: &mut [u64], c: usize, kind: Kind, x: u64) -> Gone
     requires { ⌜ Good (policyOf kind) c (now a) ⌝ }
     ensures { λ r. ⌜ Did (policyOf kind) (Remove x) c (now (a .entry)) (now (a .exit)) (goneIs r) ⌝ }
@@ -157,7 +157,7 @@ pub fn b2_len(a: &[u64], c: usize, kind: Kind) -> usize
     store::recorded(a, c, 1)
 }
 
-// ---- the stages of an insert, in 01's order.
+// ---- the stages of an insert, in the order of RULES 5.3 to 5.8
 // The resident of slot e gets the frame f, and is touched. The answer is the old frame.
 fn update(a: &mut [u64], c: usize, kind: Kind, e: usize, f: u32) -> Inserted
     requires { ⌜ IsSlot c (now a) e ⌝ }
@@ -169,8 +169,7 @@ fn update(a: &mut [u64], c: usize, kind: Kind, e: usize, f: u32) -> Inserted
     Inserted::Old(old)
 }
 
-// How the insert goes on, and what comes before the page's entry. A resident stays. A page of B1 or B2: the target moves, and the page leaves its ghost list; T2. A page that is
-// in no list: the ghost lists are trimmed, by ARC; T1.
+// Finds the page and runs the stages before its entry: ghost hit or trim. Answers update, or enter T1 or T2.
 fn prepare(a: &mut [u64], c: usize, kind: Kind, x: u64) -> Way
     requires { ⌜ HasRoom c (now a) ⌝ }
     ensures { λ r. ⌜ WayIs (policyOf kind) (stagesOf kind .ready) c (now (a .entry)) (now (a .exit)) x r ⌝ }
@@ -193,7 +192,9 @@ fn prepare(a: &mut [u64], c: usize, kind: Kind, x: u64) -> Way
     }
 }
 
-// A page that no list has: replace if full; it enters T1 (j = 0) or T2 (j = 1).
+// A page that no list has: replace if full; it enters T1 (j = 0) or T2 (j = 1). It has one caller: called from the ghost
+// hits and the miss each, it stayed a call that saved twelve registers and handed its answer over in memory. With one the
+// compiler takes all of an insert into the batch: 6 to 14 % where pages are evicted (D64).
 fn enter(a: &mut [u64], c: usize, kind: Kind, j: usize, x: u64, f: u32, in_b2: bool) -> Inserted
     requires { ⌜ CanCome c (now a) j x ⌝ }
     ensures { λ r. ⌜ Gives (policyOf kind) (entered (stagesOf kind .admitted (sideOf j) x f) (stagesOf kind .made «in_b2» (stateOf (policyOf kind) c (now (a .entry))))) c (now (a .entry)) (now (a .exit)) r ⌝ }

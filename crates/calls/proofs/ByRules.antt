@@ -1,4 +1,4 @@
--- THE CONTRACTS IN 01'S WORDS: on a writing of a well-formed state a call gives and leaves what the rules say, a
+-- THE CONTRACTS IN THE RULES' WORDS: on a writing of a well-formed state a call gives and leaves what the rules say, a
 -- writing again; on any other words it is refused with 3 and changes nothing. In order: any call; single calls and
 -- questions (batches and listings: crates batch and listing); `new`. Assumes nothing.
 use mathlib.Core.Path.{_≡_, refl, ap, _∙_}

@@ -1,4 +1,5 @@
--- WHEN TWO OUTCOMES ON ONE AREA ARE THE SAME (01: "show that any two outcomes it allows are equal"). Assumes nothing.
+-- WHEN TWO OUTCOMES ON ONE AREA ARE THE SAME ("any two outcomes that it allows are equal", RULES 10.5). Assumes
+-- nothing.
 use mathlib.Core.Path.{_≡_}
 use mathlib.Core.List.{List}
 use Prim.Native.Nat.{ℕ}

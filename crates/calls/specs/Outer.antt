@@ -1,4 +1,4 @@
--- What the public calls answer and leave, for any words (01, "Refusal numbers"). Assumes nothing.
+-- What the public calls answer and leave, for any words (RULES 3). Assumes nothing.
 use mathlib.Core.Path.{_≡_}
 use mathlib.Core.List.{List}
 use mathlib.Core.Option.{none}
@@ -13,8 +13,8 @@ use Rattle.fresh.specs.declared.Made.the-variants.{Made, Refused}
 use Rattle.calls.specs.Policy.{Policy, reads}
 
 module _ (P : Policy) where
-  -- THE CONTRACT of a public call k on any words w: it answers a and leaves v. By 01's rules for what w reads as, a refusal 3 and no state included;
-  -- words past the need of the cache are as they were, and after a refusal 3 all are.
+  -- THE CONTRACT of a public call k on any words w: it answers a and leaves v. By the rules for what w reads as, a
+  -- refusal 3 and no state included; words past the need of the cache are as they were, and after a refusal 3 all are.
   pub record Outcome (k : Call) (w v : List ℕ) (a : Answer) : Type 0 where
     pub is : done a (reads P v) ≡ called (P .does) k (reads P w)
     pub size : length v ≡ length w
@@ -32,7 +32,7 @@ module _ (P : Policy) where
     pub rest : drop (wordsNeeded c) v ≡ drop (wordsNeeded c) w
     pub refused : (a ≡ rules.Made → ⊥) → v ≡ w
 
--- 01's number for each case of what `new` answers
+-- The rules' number for each case of what `new` answers
 abbrev pub madeIs : declared.Made → Answer
 madeIs Made = rules.Made
 madeIs (Refused n) = rules.Refused n

@@ -1,4 +1,4 @@
--- WORDS AND STATES: when words are a writing of a well-formed state, and what 01 says of a call on them.
+-- WORDS AND STATES: when words are a writing of a well-formed state, and what the rules say of a call on them.
 -- Assumes nothing.
 --
 -- The names from a state to the words that an inner call may take. Each says what it adds to those above it.
@@ -7,12 +7,12 @@
 --                                      residents <= c; each ghost list <= c; 0 <= target <= c"
 --   Obeys        rules/specs/Arc, Car  Sound, and the policy's own rule: ARC's two sums of lengths, CAR's slots
 --   Ranged       rules/specs/State     pages are u64, frames u32, c is at most 1,024
---   WellFormed   rules/specs/Arc, Car  Obeys and Ranged: 01's "well formed", of a state
+--   WellFormed   rules/specs/Arc, Car  Obeys and Ranged: the rules' "well formed", of a state
 --   Holds        parts/specs/Parts     of words, cut into parts: the rings, the ghost lists and the lookup are as they
 --                                      have to be, and the lookup holds exactly the places of the lists
 --   Stored       area/specs/Stored     Holds, of an area's parts; its header has the capacity c, and it is long enough
 --   Writes       area/specs/Stored     Stored; the header has the kind, and the words read as the state s
---   WritingOf    here                  Writes, as the policy sees s, and WellFormed: 01's "well formed", of words
+--   WritingOf    here                  Writes, as the policy sees s, and WellFormed: the rules' "well formed", of words
 --   Good         Inner                 the same, where the caller has the capacity: what an inner call asks
 --
 -- What links them:
@@ -30,9 +30,9 @@
 --   Good and WritingOf say the same of an area.
 --       calls/proofs/Reading (`good-writing`, `writing-good`)
 --
--- So an area is "not well formed for that policy", for which 01 gives refusal 3, exactly where there is NoWriting. The
--- contracts of the public calls (Outer, and those of batch and listing) speak through `reads` (Policy), which is the
--- check's own test. ByRules says them without it, and follows from them: calls/proofs/ByRules.
+-- So an area is "not well formed for that policy" (RULES 3.3), for which the rules give refusal 3, exactly where there
+-- is NoWriting. The contracts of the public calls (Outer, and those of batch and listing) speak through `reads`
+-- (Policy), which is the check's own test. ByRules says them without it, and follows from them: calls/proofs/ByRules.
 use mathlib.Core.Path.{_≡_}
 use mathlib.Core.List.{List}
 use Prim.Native.Nat.{ℕ, _+_, _*_, _<_, _≤_}
@@ -62,18 +62,18 @@ module _ (P : Policy) where
     pub only : a ≡ Refused 3 → NoWriting w
     pub always : Words w → NoWriting w → a ≡ Refused 3
 
-  -- WHAT 01 SAYS OF A CALL, any but `new`. On the words w it gives x and leaves the words v; x is its answer, and with
-  -- it the counts or the records that it was lent. On a state t the rules give `gives t` and leave the state `after t`.
-  -- `kept` is refusal 3, with what was lent as it was.
+  -- WHAT THE RULES SAY OF A CALL, any but `new`. On the words w it gives x and leaves the words v; x is its answer, and
+  -- with it the counts or the records that it was lent. On a state t the rules give `gives t` and leave the state
+  -- `after t`. `kept` is refusal 3, with what was lent as it was.
   pub record ByRules {X : Type 0} (gives : P .State → X) (after : P .State → P .State) (kept : X)
       (w v : List ℕ) (x : X) : Type 0 where
     -- on a writing of a well-formed state: what the rules give, and a writing of the rules' state, well formed again
     pub given : (t : P .State) → WritingOf w t → x ≡ gives t
     pub left : (t : P .State) → WritingOf w t → WritingOf v (after t)
-    -- "3 STATE: any other call on an area not well formed for that policy .. all unchanged"
+    -- "3 STATE: any other call on an area not well formed for that policy .. all unchanged" (RULES 3.3)
     pub refused : NoWriting w → x ≡ kept
     pub unchanged : NoWriting w → v ≡ w
-    -- "Words past those are never written"
+    -- "Words past those are never written" (RULES 2.2)
     pub size : length v ≡ length w
     pub rest : drop (wordsNeeded (capacityOf w)) v ≡ drop (wordsNeeded (capacityOf w)) w
 
@@ -81,8 +81,8 @@ module _ (P : Policy) where
   abbrev pub CallByRules : Call → List ℕ → List ℕ → Answer → Type 0
   CallByRules k w v a = ByRules (λ t. P .does k t .answer) (λ t. P .does k t .state) (Refused 3) w v a
 
-  -- WHAT 01 SAYS OF `NEW`: "1 CAPACITY: `new` with c > 1,024", "2 AREA: `new` with fewer than 24c + 64 words", 1 before
-  -- 2, "area unchanged"; and else an empty cache is made
+  -- WHAT THE RULES SAY OF `NEW`: "1 CAPACITY: `new` with c > 1,024" (RULES 3.1), "2 AREA: `new` with fewer than 24c +
+  -- 64 words" (RULES 3.2), 1 before 2, "area unchanged"; and else an empty cache is made
   pub record NewExactly (c : ℕ) (w v : List ℕ) (a : Answer) : Type 0 where
     pub too-large : 1024 < c → a ≡ Refused 1
     pub too-short : c ≤ 1024 → length w < 24 * c + 64 → a ≡ Refused 2

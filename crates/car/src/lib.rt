@@ -1,4 +1,5 @@
-// CAR (01, "CAR"; src/policy/car.rs): what the rules of CAR have of their own in an insert: the sweep that finds the victim. The calls stand in `cache`.
+// CAR (RULES 6; src/policy/car.rs): what only CAR has in an insert, the sweep that finds the victim. The calls are in
+// `cache`.
 use common::Victim;
 ghost use Rattle.rules.specs.Car.{replace};
 ghost use Rattle.calls.specs.Policy.{carPolicy};

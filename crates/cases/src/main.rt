@@ -1,5 +1,6 @@
-// The test program `cases`: document 01's bench cases P1 to P8, what it asks to be run only, and every refusal number, through public calls. A
-// line for each. The file stdout is written by hand from document 01; the lists are read from the words of the area by docs/LAYOUT.md.
+// The test program `cases`: the cases P1 to P8 of RULES 11, what is run only, and every refusal number, through public
+// calls. A line for each. The file stdout is written by hand from docs/RULES.md; the lists are read from the words of
+// the area by docs/LAYOUT.md.
 use answers::Cleared;
 use answers::Counted;
 use answers::Gone;

@@ -9,14 +9,14 @@ ghost use Rattle.area.specs.Stored.{Stored, stateIn, Left};
 ghost use Rattle.store.specs.Store.{HasGhost};
 ghost use Rattle.common.specs.Common.{SlotIs, AimIs, hitAt, TurnIs};
 
-// The slot of a page's resident, or nobody's.
+// The slot that holds the page, or none.
 pub enum Slot {
     At(usize),
     Nobody,
 }
 
-// How an insert goes on once the page is found: the resident of a slot is updated; or the page, which no list has any more, comes to T1 (0) or T2 (1), after a hit in
-// B2 or not.
+// How an insert goes on once the page is found: the resident of a slot is updated; or the page, which no list has any
+// more, comes to T1 (0) or T2 (1), after a hit in B2 or not. Flat: an enum inside an enum is kept in memory (D64).
 pub enum Way {
     Stays(usize),
     Comes(usize, bool),

@@ -15,24 +15,24 @@ use Rattle.state_check.specs.Check.{Words}
 use Rattle.calls.specs.Policy.{carPolicy}
 use Rattle.calls.specs.Writing.{WritingOf}
 
--- "hand steps plus pages still referenced at the end never exceed r0 plus hits plus evictions": the area v is a writing
--- of a state again, and the counts n pay for the hand steps from the state s on
+-- "hand steps plus pages still referenced at the end never exceed r0 plus hits plus evictions" (RULES 10.3): the area
+-- v is a writing of a state again, and the counts n pay for the hand steps from the state s on
 pub record Paid (s : Car) (n : Counts) (v : List ℕ) : Type 0 where
   pub state : Car
   pub writing : Words v → WritingOf carPolicy v state
   pub paid : states.Paid s n state
 
 -- "Each replacement on a full cache with r referenced pages ends within r+1 steps, turns from the recent to the
--- frequent clock at most once and never back, and puts out exactly one page.": an insert of the page x into the state s
--- names a victim and n steps, and they are those of the rules' replacement
+-- frequent clock at most once and never back, and puts out exactly one page." (RULES 10.4): an insert of the page x
+-- into the state s names a victim and n steps, and they are those of the rules' replacement
 pub record Replaces (s : Car) (x : ℕ) (victim : Victim) (n : ℕ) : Type 0 where
   pub victim-is : victim ≡ roomFor (placeOf x (s .lists)) x s .victim
   pub steps-are : n ≡ steps (roomFor (placeOf x (s .lists)) x s)
   pub ends : Ends s (roomFor (placeOf x (s .lists)) x s)
 
--- ".. puts out exactly one page", of the whole insert of the page x and the frame f: the area v that it leaves is a
--- writing of a state in which of the residents of s the page p alone is missing, which was in the frame g, and x alone
--- has come, in f
+-- ".. puts out exactly one page" (RULES 10.4), of the whole insert of the page x and the frame f: the area v that it
+-- leaves is a writing of a state in which of the residents of s the page p alone is missing, which was in the frame g,
+-- and x alone has come, in f
 pub record PutsOut (s : Car) (x f p g : ℕ) (v : List ℕ) : Type 0 where
   pub state : Car
   pub writing : Words v → WritingOf carPolicy v state

@@ -1,5 +1,5 @@
-// The program `drawing`: the area of ARC at capacity 2 after the operations of 01's P1, word by word: its index, what it holds by
-// docs/LAYOUT.md, its value. docs/LAYOUT.md has what it prints as its drawing (tools/drawing).
+// The program `drawing`: the area of ARC at capacity 2 after the operations of P1 (RULES 11), word by word: its index,
+// what it holds by docs/LAYOUT.md, its value. docs/LAYOUT.md has what it prints as its drawing (tools/drawing).
 use arc_core::ArcCore;
 ghost use mathlib.Core.Path.{_≡_};
 ghost use Prim.Native.Nat.{_≤_};

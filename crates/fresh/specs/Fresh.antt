@@ -1,4 +1,4 @@
--- What `new` answers and leaves (01, "Refusal numbers"). Assumes nothing.
+-- What `new` answers and leaves (RULES 3). Assumes nothing.
 use mathlib.Core.Path.{_≡_}
 use mathlib.Core.Bool.{cond}
 use mathlib.Core.List.{List}
@@ -23,7 +23,8 @@ pub record Fits (c : ℕ) (w : List ℕ) : Type 0 where
 unfoldable pub headed : ℕ → ℕ → List ℕ → List ℕ
 headed kind c w = set (set (set w 0 kind) 1 c) 3 (inverseOf (bucketsOf c))
 
--- "1 CAPACITY: `new` with c > 1,024", "2 AREA: `new` with fewer than 24c + 64 words", 1 before 2
+-- "1 CAPACITY: `new` with c > 1,024" (RULES 3.1), "2 AREA: `new` with fewer than 24c + 64 words" (RULES 3.2), 1 before
+-- 2
 unfoldable pub answerOf : ℕ → ℕ → declared.Made
 answerOf c words = cond (ltb maxCapacity c) (Refused 1) (cond (ltb words (wordsNeeded c)) (Refused 2) Made)
 

@@ -37,6 +37,7 @@ fn pick(w: &[u64], c: usize, n: u64) -> usize
 }
 
 // A cell for a page that is recorded. It comes to the front of the list; where it was a spare one the list has one more.
+// One `to_front` for both, so that the compiler takes it in (D64).
 pub fn record(w: &mut [u64], c: usize) -> usize
     requires { ⌜ CanRecord (now w) c ⌝ }
     ensures { λ r. ⌜ Recorded (now (w .entry)) (now (w .exit)) c r ⌝ }

@@ -1,5 +1,6 @@
-// The text of the replay program's lines (01, "Trace bytes"), written into a lent buffer. Each writer answers the position behind what it
-// wrote; the bytes before and behind the text stay. A caller that has room for `lineRoom` bytes has room for any line.
+// The text of the replay program's lines (RULES 9), written into a lent buffer. Each writer answers the position behind
+// what it wrote; the bytes before and behind the text stay. A caller that has room for `lineRoom` bytes has room for
+// any line.
 use answers::Gone;
 use answers::Got;
 use answers::Inserted;

@@ -1,4 +1,4 @@
--- THE CONTRACT OF A LISTING IN 01'S WORDS. Assumes nothing.
+-- THE CONTRACT OF A LISTING IN THE RULES' WORDS. Assumes nothing.
 use mathlib.Core.Path.{_≡_, refl, ap, _∙_}
 use mathlib.Core.List.{List}
 use mathlib.Core.Option.{some, none}

@@ -1,4 +1,4 @@
--- 01's number and values for each answer of a listing, and the contract of `list`. Assumes nothing.
+-- The rules' number and values for each answer of a listing, and the contract of `list`. Assumes nothing.
 use mathlib.Core.Path.{_≡_}
 use mathlib.Core.List.{List, map}
 use mathlib.Core.Option.{Option}

@@ -1,4 +1,4 @@
--- What 01 says of a listing. Assumes nothing.
+-- What the rules say of a listing. Assumes nothing.
 use mathlib.Core.List.{List}
 use Prim.Native.Nat.{ℕ}
 use lib.ListN.{length}

@@ -1,5 +1,6 @@
--- P9 of 01 and its neighbours, of the definitions: one statement over a table, which antt computes. A row has the bytes, with the page that they read
--- as and the frame; a fault has its place, counted from the number's first byte. Assumes nothing.
+-- P9 (RULES 11) and its neighbours, of the definitions: one statement over a table, which antt computes. A row has the
+-- bytes, with the page that they read as and the frame; a fault has its place, counted from the number's first byte.
+-- Assumes nothing.
 use mathlib.Core.Path.{_≡_, refl}
 use mathlib.Core.List.{List, [], _∷_, _++_, map}
 use Prim.Native.Nat.{ℕ, _+_, _-_, _^_}

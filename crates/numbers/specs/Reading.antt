@@ -1,10 +1,11 @@
--- Numbers of a trace (01, "Trace bytes"). Assumes nothing.
+-- Numbers of a trace (RULES 8). Assumes nothing.
 --
--- "Numbers are groups of seven bits, lowest group first, top bit set on all but the last byte, shortest form only: a last byte 0 is allowed only
--- for zero itself. A page has at most ten bytes, the tenth being 1; a frame at most five, the fifth at most 15."
+-- "Numbers are groups of seven bits, lowest group first, top bit set on all but the last byte, shortest form only: a
+-- last byte 0 is allowed only for zero itself. A page has at most ten bytes, the tenth being 1; a frame at most five,
+-- the fifth at most 15." (RULES 8.2, 8.3)
 --
--- One definition serves every width: a width is the most bytes of a number and the limit of the last of them. Reading byte by byte, the first
--- fault decides, and its place is counted from the number's first byte.
+-- One definition serves every width: a width is the most bytes of a number and the limit of the last of them. Reading
+-- byte by byte, the first fault decides, and its place is counted from the number's first byte.
 use Prim.Native.Nat.{ℕ, zero, suc, _+_, _-_, _*_, _%_}
 use mathlib.Core.List.{List, [], _∷_}
 use mathlib.Core.Bool.{cond, _&&_}

@@ -3,7 +3,9 @@
 // last run are told on one line: gets, hits, updates, new pages, evictions, steps, removals; or the refusal, `stop R at O`.
 //
 // An array has at most 524,288 elements, so the trace lies in eight, 4 MB together. Each holds whole operations: what a buffer has of an
-// operation that it cuts moves to the start of the next. An area is opened once in each run, as a batch does, and then run on every piece.
+// operation that it cuts moves to the start of the next. An area is opened once in each run, as a batch does, and then
+// run on every piece. The ends of operations are found here and not by `trace::check`: with that in the program the
+// reader has two callers and is not inlined into the batch (D58).
 // Where REPEATS is 0 a trace of any length is run once, while it is read: one buffer is filled again and again. The counts
 // are then told in any case, and after them the last line of the replay program: `end N` after N operations, or `stop R at
 // O`, where the counts are those of the operations before byte O.

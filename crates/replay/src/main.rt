@@ -1,9 +1,11 @@
-// The program `replay` (01, "Trace bytes"): a kind byte, a capacity and operations on standard input; a line for each operation and a last line
-// on standard output. It reads, calls and writes; what is made of the bytes, and which lines there are to write, is the library's, `replaying`.
+// The program `replay` (RULES 9): a kind byte, a capacity and operations on standard input; a line for each operation
+// and a last line on standard output. It reads, calls and writes; what is made of the bytes, and which lines there are
+// to write, is the library's, `replaying`.
 //
-// No contract can say what is read and what is written. What is left to be believed: `read_full` puts the next bytes of the input, as many as there is
-// room for; `write_all` writes what it is handed; and `write` hands it the lines of the turn, once. tools/wrong_shells tries that by runs. The rest is
-// proved: `Replays` in specs/Standing.antt, with the theorem `any-buffer` of `replaying`.
+// No contract can say what is read and what is written. What is left to be believed: `read_full` puts the next bytes of
+// the input, as many as there is room for; `write_all` writes what it is handed; and `write` hands it the lines of the
+// turn, once. tools/wrong_shells tries that by runs. The rest is proved: `Replays` in specs/Standing.antt, with the
+// theorem `any-buffer` of `replaying`.
 use libc::STDIN_FILENO;
 use libc::STDOUT_FILENO;
 use replaying::Replay;

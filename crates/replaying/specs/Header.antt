@@ -19,12 +19,13 @@ use Rattle.replaying.specs.declared.Header.{Header}
 use Rattle.replaying.specs.declared.Header.the-variants.{Cache, Stop}
 use Rattle.replaying.specs.Pending.{areaWords}
 
--- "1 CAPACITY .. (program: c > 256)", "for a bad c, 1"
+-- "1 CAPACITY .. (program: c > 256)" (RULES 3.1), "for a bad c, 1" (RULES 9.2)
 abbrev pub sized : Kind → Frame → Header
 sized k (Value c used) = cond (ltb maxReplayed c) (Stop 1 1) (Cache k c (1 + used))
 sized k (Faulty f) = Stop (faultNumber f) (1 + faultPlace 0 f)
 
--- "a kind byte (1 ARC, 2 CAR)", "4 OPERATION .. program: kind byte not 1 or 2", "Empty input: `stop 5 at 0`."
+-- "a kind byte (1 ARC, 2 CAR)" (RULES 9.1), "4 OPERATION .. program: kind byte not 1 or 2" (RULES 3.4), "Empty input:
+-- `stop 5 at 0`." (RULES 9.3)
 unfoldable pub headerOf : List ℕ → Header
 headerOf [] = Stop 5 0
 headerOf (b ∷ bs) = cond (eqb b 1) (sized Arc (frameOf bs)) (cond (eqb b 2) (sized Car (frameOf bs)) (Stop 4 0))

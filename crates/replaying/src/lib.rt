@@ -1,5 +1,5 @@
-// The replay program (01, "Trace bytes") on an input that comes in pieces: what it has told and has still to tell, and the code that tells
-// it. The caller reads, calls `feed` and writes; nothing here grows with the input.
+// The replay program (RULES 9) on an input that comes in pieces: what it has told and has still to tell, and the code
+// that tells it. The caller reads, calls `feed` and writes; nothing here grows with the input.
 use numbers::Frame;
 use rules::Kind;
 use trace::Cursor;

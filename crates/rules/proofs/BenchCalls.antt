@@ -1,4 +1,4 @@
--- Rows of 01's sections "Refusal numbers" and "Listings and counts": the questions, the public calls with what they leave, batches and their counts.
+-- Rows of RULES 3 and 7: the questions, the public calls with what they leave, batches and their counts.
 -- Assumes nothing.
 use mathlib.Core.List.{List, [], _∷_, _++_, map}
 use mathlib.Core.Bool.{true, false}
@@ -74,10 +74,11 @@ nothing = tallied 0 0 0 0 0 0 0
 
 abbrev pub callRows : List Row
 callRows =
-    -- the questions; "6 ROOM: listing into fewer records than residents"
+    -- the questions; "6 ROOM: listing into fewer records than residents" (RULES 3.6)
     (answers (map (λ q. Arc.does (Ask q) lengths .answer) questions) is answers answered) ∷
     (answers (map (λ q. Car.does (Ask q) clocks .answer) questions) is answers answered) ∷
-    -- "1 CAPACITY: `new` with c > 1,024", "2 AREA: `new` with fewer than 24c + 64 words", "area unchanged", "Order: 1 before 2"
+    -- "1 CAPACITY: `new` with c > 1,024" (RULES 3.1), "2 AREA: `new` with fewer than 24c + 64 words" (RULES 3.2),
+    -- "area unchanged", "Order: 1 before 2" (RULES 3.21)
     (numbers (map wordsNeeded (0 ∷ 1 ∷ 2 ∷ 1024 ∷ [])) is numbers (64 ∷ 88 ∷ 112 ∷ 24640 ∷ [])) ∷
     (arcMade (made Arc.new 1024 24640 none) is arcLeft Made (some (arcPages 1024 512 [] [] [] []))) ∷
     (arcMade (made Arc.new 1024 24639 none) is arcLeft (Refused 2) none) ∷
@@ -87,14 +88,16 @@ callRows =
     (arcMade (made Arc.new 3 136 (some some2)) is arcLeft Made (some (arcPages 3 1 [] [] [] []))) ∷
     (carMade (made Car.new 3 137 none) is carLeft Made (some (carOf 3 1 [] [] [] [] (0 ∷ 1 ∷ 2 ∷ [])))) ∷
     (carMade (made Car.new 0 64 none) is carLeft Made (some (carOf 0 0 [] [] [] [] []))) ∷
-    -- "3 STATE: any other call on an area not well formed for that policy", "all unchanged"; else the call on what the area reads as
+    -- "3 STATE: any other call on an area not well formed for that policy" (RULES 3.3), "all unchanged" (RULES 3.3);
+    -- else the call on what the area reads as
     (arcMade (called Arc.does (Get 1) none) is arcLeft (Refused 3) none) ∷
     (answers (map (λ k. called Car.does k none .answer) (Get 1 ∷ Insert 1 2 ∷ Remove 1 ∷ Clear ∷ Ask Len ∷ Ask (Listing 0) ∷ [])) is
     answers (Refused 3 ∷ Refused 3 ∷ Refused 3 ∷ Refused 3 ∷ Refused 3 ∷ Refused 3 ∷ [])) ∷
     (arcMade (called Arc.does (Remove 2) (some some2)) is arcLeft (Gone 12) (some (arcOf 2 1 ((1, 11) ∷ []) [] [] []))) ∷
     (carMade (called Car.does (Insert 5 6) (some (carOf 1 0 [] [] [] [] (0 ∷ [])))) is
     carLeft new (some (carOf 1 0 (at 5 6 0 ∷ []) [] [] [] []))) ∷
-    -- "A listing writes residents into a lent slice of records, page and frame, and answers how many; records past them keep what they held."
+    -- "A listing writes residents into a lent slice of records, page and frame, and answers how many; records past
+    -- them keep what they held." (RULES 7.1)
     (arcListed (listed Arc.does Arc.listing (map rec lent) (some some2)) is
     arcRecords (Number 2) (some some2) ((1, 11) ∷ (2, 12) ∷ (9, 90) ∷ [])) ∷
     (arcListed (listed Arc.does Arc.listing (map rec ((7, 70) ∷ (8, 80) ∷ [])) (some some2)) is
@@ -104,15 +107,16 @@ callRows =
     (arcListed (listed Arc.does Arc.listing (map rec lent) none) is arcRecords (Refused 3) none lent) ∷
     (carListed (listed Car.does Car.listing (map rec lent) (some (carOf 2 1 (ref 1 11 1 ∷ at 2 12 0 ∷ []) [] [] [] []))) is
     carRecords (Number 2) (some (carOf 2 1 (ref 1 11 1 ∷ at 2 12 0 ∷ []) [] [] [] [])) ((2, 12) ∷ (1, 11) ∷ (9, 90) ∷ [])) ∷
-    -- "A batch runs a whole trace and answers the operations done, or the refusal. After it a record of counts that the caller lends is set to this
-    -- batch's gets, get hits, updates, new pages, evictions, steps and removals that found their page"
+    -- "A batch runs a whole trace and answers the operations done, or the refusal. After it a record of counts that
+    -- the caller lends is set to this batch's gets, get hits, updates, new pages, evictions, steps and removals that
+    -- found their page" (RULES 7.4, 7.5)
     (carBatched (batched Car.does busy old (some (carOf 1 0 [] [] [] [] (0 ∷ [])))) is
     carRan (Finished 10) (some (carOf 1 0 (at 7 12 0 ∷ []) [] [] (5 ∷ []) [])) (tallied 2 1 1 3 1 2 1)) ∷
     (arcBatched (batched Arc.does busy old (some (arcPages 1 0 [] [] [] []))) is
     arcRan (Finished 10) (some (arcOf 1 0 ((7, 12) ∷ []) [] [] (5 ∷ []))) (tallied 2 1 1 3 1 1 1)) ∷
     (arcBatched (batched Arc.does [] old (some some2)) is
     arcRan (Finished 0) (some some2) nothing) ∷
-    -- "(those before a refusal 4 or 5 counted)", "state after the operations before it"
+    -- "(those before a refusal 4 or 5 counted)" (RULES 7.5), "state after the operations before it"
     (arcBatched (batched Arc.does (3 ∷ 2 ∷ 4 ∷ 7 ∷ 1 ∷ 1 ∷ []) old (some some2)) is
     arcRan (Stopped 4 3) (some (arcPages 2 1 [] [] [] [])) (tallied 0 0 0 0 0 0 1)) ∷
     (arcBatched (batched Arc.does (1 ∷ 9 ∷ 2 ∷ 1 ∷ []) old (some some2)) is
@@ -120,7 +124,7 @@ callRows =
     -- the operations done, the refusal (0 for none) and its offset (the end for none), of bytes whose first has the offset 3
     (numbers (map (λ b. b .done) ran ++ map (λ b. b .refusal) ran ++ map (λ b. b .offset) ran) is
     numbers (0 ∷ 2 ∷ 2 ∷ 1 ∷ 0 ∷ 0 ∷ 4 ∷ 5 ∷ 3 ∷ 6 ∷ 5 ∷ 5 ∷ [])) ∷
-    -- "3 STATE .. all unchanged"
+    -- "3 STATE .. all unchanged" (RULES 3.3)
     (arcBatched (batched Arc.does (4 ∷ []) old none) is arcRan (Refused 3) none old) ∷
     -- what each answer counts
     (counting (tally (Hit 9 ∷ Miss ∷ Miss ∷ Old 9 ∷ New nobody 0 ∷ New (out 8 9 (ghost first)) 5 ∷ Gone 9 ∷ Gone 9 ∷ Gone 9 ∷ Gone 9 ∷ [])) is counting (tallied 3 1 1 2 1 5 4)) ∷

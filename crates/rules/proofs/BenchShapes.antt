@@ -55,7 +55,7 @@ pub data Shown : Type 0 where
   arcBatched : BatchDone Arc → Shown
   carBatched : BatchDone Car → Shown
 
--- a row: what the definitions give, and what document 01 says
+-- a row: what the definitions give, and what the rules say
 pub record Row : Type 0 where
   pub given : Shown
   pub wanted : Shown

@@ -1,5 +1,6 @@
--- Rows of 01's section "State rules": the tests of a state, on both sides of each limit. proofs/CheckLaws shows that each test is true of the
--- well-formed states and of no others, so that these rows hold the records Sound, Ranged, Obeys and WellFormed too. Assumes nothing.
+-- Rows of RULES 2: the tests of a state, on both sides of each limit. proofs/CheckLaws shows that each test is true of
+-- the well-formed states and of no others, so that these rows hold the records Sound, Ranged, Obeys and WellFormed too.
+-- Assumes nothing.
 use mathlib.Core.List.{List, [], _∷_, map}
 use mathlib.Core.Bool.{true, false}
 use Prim.Native.Nat.{ℕ, _-_, _^_}
@@ -22,7 +23,7 @@ two x y k l b1 b2 free = carOf 4 2 (at x 0 k ∷ []) (ref y 0 l ∷ []) b1 b2 fr
 
 abbrev pub stateRows : List Row
 stateRows =
-    -- "all pages, resident and ghost, are distinct"
+    -- "all pages, resident and ghost, are distinct" (RULES 2.6)
     (tests (map (λ s. arcTest s)
     (arcPages 4 2 (1 ∷ 2 ∷ []) (3 ∷ 4 ∷ []) (5 ∷ 6 ∷ []) (7 ∷ 8 ∷ []) ∷
     arcPages 4 2 (1 ∷ 1 ∷ []) (3 ∷ 4 ∷ []) (5 ∷ 6 ∷ []) (7 ∷ 8 ∷ []) ∷
@@ -40,31 +41,32 @@ stateRows =
     -- how often a page stands in the four lists together: 1 in T1, twice in T2 and three times in B1 and B2
     (numbers (map (λ x. seen x (arcPages 9 2 (1 ∷ 2 ∷ []) (1 ∷ 3 ∷ 1 ∷ []) (1 ∷ 1 ∷ 4 ∷ 1 ∷ []) (5 ∷ 1 ∷ 1 ∷ 1 ∷ []))) (0 ∷ 1 ∷ 2 ∷ 3 ∷ 4 ∷ 5 ∷ [])) is
     numbers (0 ∷ 9 ∷ 1 ∷ 1 ∷ 1 ∷ 1 ∷ [])) ∷
-    -- "residents <= c"
+    -- "residents <= c" (RULES 2.6)
     arcLimit (arcPages 2 1 (1 ∷ []) (2 ∷ []) [] []) (arcPages 2 1 (1 ∷ []) (2 ∷ 3 ∷ []) [] []) ∷
     arcLimit (arcPages 2 1 (1 ∷ 2 ∷ []) [] [] []) (arcPages 2 1 (1 ∷ 2 ∷ 3 ∷ []) [] [] []) ∷
-    -- "each ghost list <= c"
+    -- "each ghost list <= c" (RULES 2.6)
     arcLimit (arcPages 2 1 [] [] (1 ∷ 2 ∷ []) []) (arcPages 2 1 [] [] (1 ∷ 2 ∷ 3 ∷ []) []) ∷
     arcLimit (arcPages 2 1 [] [] [] (1 ∷ 2 ∷ [])) (arcPages 2 1 [] [] [] (1 ∷ 2 ∷ 3 ∷ [])) ∷
     carLimit (carOf 2 1 [] [] (1 ∷ 2 ∷ []) [] (0 ∷ 1 ∷ [])) (carOf 2 1 [] [] (1 ∷ 2 ∷ 3 ∷ []) [] (0 ∷ 1 ∷ [])) ∷
-    -- "0 <= target <= c"
+    -- "0 <= target <= c" (RULES 2.6)
     arcLimit (arcPages 2 2 [] [] [] []) (arcPages 2 3 [] [] [] []) ∷
     arcLimit (arcPages 2 0 [] [] [] []) (arcPages 0 1 [] [] [] []) ∷
-    -- "for ARC also T1+B1 <= c+1"
+    -- "for ARC also T1+B1 <= c+1" (RULES 2.7)
     arcLimit (arcPages 2 1 (1 ∷ []) [] (2 ∷ 3 ∷ []) []) (arcPages 2 1 (1 ∷ 2 ∷ []) [] (3 ∷ 4 ∷ []) []) ∷
-    -- "and all four lists together <= 2c+1"
+    -- "and all four lists together <= 2c+1" (RULES 2.7)
     arcLimit (arcPages 2 1 (1 ∷ []) (2 ∷ []) (3 ∷ 4 ∷ []) (5 ∷ [])) (arcPages 2 1 (1 ∷ []) (2 ∷ []) (3 ∷ 4 ∷ []) (5 ∷ 6 ∷ [])) ∷
     (tests (carTest (carOf 2 1 (at 1 0 0 ∷ at 2 0 1 ∷ []) [] (3 ∷ 4 ∷ []) (5 ∷ 6 ∷ []) []) ∷ []) is tests (true ∷ [])) ∷
-    -- "for CAR every resident has a slot below c of its own"
+    -- "for CAR every resident has a slot below c of its own" (RULES 2.8)
     carLimit (two 1 2 3 1 [] [] (2 ∷ 0 ∷ [])) (two 1 2 4 1 [] [] (2 ∷ 0 ∷ [])) ∷
     carLimit (two 1 2 0 3 [] [] (2 ∷ 1 ∷ [])) (two 1 2 0 4 [] [] (2 ∷ 1 ∷ [])) ∷
     carLimit (two 1 2 0 3 [] [] (2 ∷ 1 ∷ [])) (two 1 2 3 3 [] [] (2 ∷ 1 ∷ [])) ∷
-    -- "and the free slots are exactly the others, in a stated order": one is missing, stands twice, is taken, is not below c
+    -- "and the free slots are exactly the others, in a stated order" (RULES 2.8): one is missing, stands twice, is
+    -- taken, is not below c
     carLimit (two 1 2 0 3 [] [] (1 ∷ 2 ∷ [])) (two 1 2 0 3 [] [] (1 ∷ [])) ∷
     carLimit (two 1 2 0 3 [] [] (1 ∷ 2 ∷ [])) (two 1 2 0 3 [] [] (1 ∷ 2 ∷ 1 ∷ [])) ∷
     carLimit (two 1 2 0 3 [] [] (1 ∷ 2 ∷ [])) (two 1 2 0 3 [] [] (1 ∷ 2 ∷ 0 ∷ [])) ∷
     carLimit (two 1 2 0 3 [] [] (1 ∷ 2 ∷ [])) (two 1 2 0 3 [] [] (1 ∷ 2 ∷ 4 ∷ [])) ∷
-    -- "Page: any u64. Frame: any u32. Capacity c: 0 to 1,024"
+    -- "Page: any u64. Frame: any u32. Capacity c: 0 to 1,024" (RULES 1.1)
     arcLimit (arcPages 2 1 ((2 ^ 64 - 1) ∷ []) [] [] []) (arcPages 2 1 ((2 ^ 64) ∷ []) [] [] []) ∷
     arcLimit (arcPages 2 1 [] ((2 ^ 64 - 1) ∷ []) [] []) (arcPages 2 1 [] ((2 ^ 64) ∷ []) [] []) ∷
     arcLimit (arcPages 2 1 [] [] ((2 ^ 64 - 1) ∷ []) []) (arcPages 2 1 [] [] ((2 ^ 64) ∷ []) []) ∷

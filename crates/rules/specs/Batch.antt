@@ -1,4 +1,4 @@
--- A batch runs a whole trace (01, "Listings and counts"). Assumes nothing.
+-- A batch runs a whole trace (RULES 7). Assumes nothing.
 use Prim.Native.Nat.{ℕ, zero, suc, _+_, _-_}
 use mathlib.Core.List.{List, [], _∷_}
 use mathlib.Core.Bool.{cond}
@@ -54,6 +54,6 @@ module _ {S : Type 0} where
   abbrev pub batch : (Call → S → Done S) → ℕ → List ℕ → S → Batched S
   batch does o bs s = runFrom does o 0 bs s
 
-  -- its answer: "the operations done, or the refusal"
+  -- its answer: "the operations done, or the refusal" (RULES 7.4)
   abbrev pub answerOf : Batched S → Answer
   answerOf b = cond (eqb (b .refusal) 0) (Finished (b .done)) (Stopped (b .refusal) (b .offset))

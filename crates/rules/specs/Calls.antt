@@ -103,7 +103,7 @@ module _ {X : Type 0} where
   isThere none = false
   isThere (some e) = true
 
-  -- "6 ROOM: listing into fewer records than residents"
+  -- "6 ROOM: listing into fewer records than residents" (RULES 3.6)
   unfoldable pub asked : Question → Lists X → Answer
   asked (Peek x) s = seenFrame (resident x s)
   asked (Contains x) s = Holds (isThere (resident x s))

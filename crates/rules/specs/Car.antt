@@ -1,4 +1,5 @@
--- CAR (01, "CAR"; src/policy/car.rs): two clocks, recent (T1) and frequent (T2), each a sequence starting at its hand. Assumes nothing.
+-- CAR (RULES 6; src/policy/car.rs): two clocks, recent (T1) and frequent (T2), each a sequence starting at its hand.
+-- Assumes nothing.
 use Prim.Native.Nat.{ℕ, zero, suc, _+_}
 use mathlib.Core.Path.{_≡_}
 use mathlib.Core.List.{List, [], _∷_, _++_, map}
@@ -12,7 +13,7 @@ use Rattle.rules.specs.Calls.{Call, Get, Insert, Remove, Clear, Ask, Pla
 use Rattle.rules.specs.Ghosts.{recordIn}
 use Rattle.rules.specs.Stages.{emptied, placeOf, ghostHit, isB2, goesTo, turn, recordPlace}
 
--- "each resident has a reference bit and a slot"
+-- "each resident has a reference bit and a slot" (RULES 6.1)
 pub record Clocked : Type 0 where
   pub slot : ℕ
   pub bit : Bool
@@ -46,7 +47,8 @@ car l f = record { lists = l; free = f }
 abbrev pub referenced : Lists Clocked → ℕ
 referenced s = marks (s .T1) + marks (s .T2)
 
--- ---- state rules: "for CAR every resident has a slot below c of its own and the free slots are exactly the others, in a stated order"
+-- ---- state rules: "for CAR every resident has a slot below c of its own and the free slots are exactly the others,
+-- in a stated order" (RULES 2.8)
 -- how often a slot stands among the residents' slots
 abbrev pub taken : ℕ → Lists Clocked → ℕ
 taken k s = times k (slots (s .T1)) + times k (slots (s .T2))
@@ -60,11 +62,11 @@ pub record WellFormed (s : Car) : Type 0 where
   pub obeys : Obeys s
   pub ranged : Ranged (s .lists)
 
--- the free slots are "0, 1, 2 and so on after `new` and `clear`"
+-- the free slots are "0, 1, 2 and so on after `new` and `clear`" (RULES 6.4)
 unfoldable pub new : ℕ → Car
 new c = car (emptied c) (countFrom 0 c)
 
--- ---- hits: "set the bit; nothing moves; the update takes the new frame and returns the old one"
+-- ---- hits: "set the bit; nothing moves; the update takes the new frame and returns the old one" (RULES 6.3)
 unfoldable pub touched : ℕ → (Resident → Resident) → Car → Car
 touched x g s = car (changedIn x g (s .lists)) (s .free)
 
@@ -73,7 +75,7 @@ unfolding touched
 got none s = done Miss s
 got (some e) s = done (Hit (e .frame)) (touched (e .page) (withBit true) s)
 
--- ---- the replacement step: "choose the clock by ARC's test, with recent as T1"
+-- ---- the replacement step: "choose the clock by ARC's test, with recent as T1" (RULES 6.7)
 -- what stands at the hand of the chosen clock, and the rest of that clock
 pub data Hand : Type 0 where
   empty : Hand
@@ -90,11 +92,12 @@ hand b2Hit s = let i = turn b2Hit s in handOf i (list i s)
 abbrev pub atEnd : Side → Resident → Lists Clocked → Lists Clocked
 atEnd i e s = setList i (list i s ++ e ∷ []) s
 
--- "Recent and referenced: clear the bit, move to the end of frequent. Frequent and referenced: clear, move to its own end."
+-- "Recent and referenced: clear the bit, move to the end of frequent. Frequent and referenced: clear, move to its own
+-- end." (RULES 6.8)
 abbrev pub passed : Side → Resident → List Resident → Car → Car
 passed i e rest s = car (atEnd second (withBit false e) (setList i rest (s .lists))) (s .free)
 
--- "Unreferenced: evict, record the page in that clock's ghost list, done." The freed slot goes on top.
+-- "Unreferenced: evict, record the page in that clock's ghost list, done." (RULES 6.9) The freed slot goes on top.
 abbrev pub evicted : Side → Resident → List Resident → Car → Replaced Car
 evicted i e rest s =
     let p = recordPlace i in
@@ -131,18 +134,19 @@ unfolding sweep
 replace b2Hit s = sweep (referenced (s .lists)) b2Hit s
 
 -- ---- insert
--- "Miss: replace if full, recent clock. No further ghost trimming."
+-- "Miss: replace if full, recent clock. No further ghost trimming." (RULES 6.6)
 unfoldable pub missed : Car → Replaced Car
 unfolding replace
 missed s = replaceIf (full (s .lists)) (replace false) s
 
 -- "Ghost hits: as ARC's target rule, page removed from the ghost list, replace if full, page into the frequent clock."
+-- (RULES 6.5)
 unfoldable pub roomFor : Place → ℕ → Car → Replaced Car
 unfolding replace missed
 roomFor (ghost i) x s = let h = ghostHit i x (s .lists) in replaceIf (full h) (replace (isB2 i)) (car h (s .free))
 roomFor nowhere x s = missed s
 
--- "A new page: bit clear, end of its clock, slot from the top of the free stack"
+-- "A new page: bit clear, end of its clock, slot from the top of the free stack" (RULES 6.4)
 unfoldable pub admitted : Side → ℕ → ℕ → Car → Car
 admitted i x f s = car (atEnd i (entry x f (clocked (getD (s .free) 0 0) false)) (s .lists)) (drop 1 (s .free))
 
@@ -150,19 +154,19 @@ unfoldable pub insertAt : Place → ℕ → ℕ → Car → Done Car
 unfolding roomFor admitted
 insertAt p x f s = let r = roomFor p x s in done (New (r .victim) (steps r)) (admitted (goesTo p) x f (r .state))
 
--- "Insert, c = 0: not stored, as ARC."
+-- "Insert, c = 0: not stored, as ARC." (RULES 6.2)
 unfoldable pub inserted : Bool → Option Resident → ℕ → ℕ → Car → Done Car
 unfolding insertAt touched
 inserted true r x f s = done None s
 inserted false (some e) x f s = done (Old (e .frame)) (touched x (λ r. withBit true (withFrame f r)) s)
 inserted false none x f s = insertAt (placeOf x (s .lists)) x f s
 
--- "Remove and clear as ARC; remove pushes the slot."
+-- "Remove and clear as ARC; remove pushes the slot." (RULES 6.11)
 unfoldable pub removed : Option Resident → Car → Done Car
 removed none s = done Absent s
 removed (some e) s = done (Gone (e .frame)) (car (leaves (e .page) (s .lists)) (e .more .slot ∷ s .free))
 
--- ---- listings: "CAR by rising slot"
+-- ---- listings: "CAR by rising slot" (RULES 7.2)
 -- the resident of slot k, if there is one, before r
 abbrev pub atSlot : ℕ → List Resident → List Record → List Record
 atSlot k [] r = r

@@ -1,9 +1,9 @@
--- What the answers of a batch count (01, "Listings and counts"). Assumes nothing.
+-- What the answers of a batch count (RULES 7). Assumes nothing.
 use Prim.Native.Nat.{ℕ, _+_}
 use mathlib.Core.List.{List, [], _∷_}
 use Rattle.rules.specs.Calls.{Victim, nobody, out, Answer, Hit, Miss, New, Old, None, Gone, Absent, Cleared, See, No, Holds, Number, Made, Finished, Stopped, Refused}
 
--- "gets, get hits, updates, new pages, evictions, steps and removals that found their page"
+-- "gets, get hits, updates, new pages, evictions, steps and removals that found their page" (RULES 7.5)
 pub record Counts : Type 0 where
   pub gets : ℕ
   pub getHits : ℕ

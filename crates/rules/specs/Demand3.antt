@@ -12,12 +12,12 @@ use Rattle.rules.specs.Counts.{Counts, hits, outs}
 use Rattle.rules.specs.Car.{Clocked, Resident, Car, referenced}
 
 -- "from any well-formed state with r0 referenced pages and over any calls: hand steps plus pages still referenced at
--- the end never exceed r0 plus hits plus evictions": from the state s to the state t, with the counts n
+-- the end never exceed r0 plus hits plus evictions" (RULES 10.3): from the state s to the state t, with the counts n
 abbrev pub Paid : Car → Counts → Car → Type 0
 Paid s n t = n .steps + referenced (t .lists) ≤ referenced (s .lists) + hits n + n .evictions
 
 -- ---- "Each replacement on a full cache with r referenced pages ends within r+1 steps, turns from the recent to the
--- frequent clock at most once and never back, and puts out exactly one page."
+-- frequent clock at most once and never back, and puts out exactly one page." (RULES 10.4)
 -- how often a page stands among the residents; and whether it is a victim's
 abbrev pub held : ℕ → Lists Clocked → ℕ
 held y s = times y (pages (s .T1)) + times y (pages (s .T2))
@@ -54,7 +54,7 @@ pub record Ends (s : Car) (r : Replaced Car) : Type 0 where
   pub others : (y : ℕ) → held y (s .lists) ≡ held y (r .state .lists) + goes y (r .victim)
   pub frames : (y h : ℕ) → heldIn y h (s .lists) ≡ heldIn y h (r .state .lists) + goesFrom y h (r .victim)
 
--- ---- "puts out exactly one page", of a whole insert
+-- ---- "puts out exactly one page" (RULES 10.4), of a whole insert
 -- what `peek` answers: the page's frame, or that it is not resident
 abbrev pub peeked : ℕ → Car → Answer
 peeked y s = seenFrame (resident y (s .lists))

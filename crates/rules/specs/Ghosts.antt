@@ -1,4 +1,4 @@
--- The ghost list (01, "Ghost list"): newest first, at most c pages. Assumes nothing.
+-- The ghost list (RULES 4): newest first, at most c pages. Assumes nothing.
 use Prim.Native.Nat.{ℕ}
 use mathlib.Core.List.{List, _∷_}
 use lib.ListN.{take}
@@ -7,6 +7,7 @@ use Rattle.rules.specs.State.{Lists, Side, ghosts, setGhosts}
 use Rattle.rules.specs.Calls.{Place, ghost, nowhere}
 
 -- "Recording puts a page at the front; if the list held c, its oldest is dropped; with c = 0 nothing is kept."
+-- (RULES 4.2)
 abbrev pub recorded : ℕ → ℕ → List ℕ → List ℕ
 recorded c x b = take c (x ∷ b)
 
@@ -20,6 +21,6 @@ module _ {X : Type 0} where
   abbrev pub removeGhost : Side → ℕ → Lists X → Lists X
   removeGhost i x s = setGhosts i (leave x (ghosts i s)) s
 
-  -- ".. and dropping the oldest of an empty list do nothing."
+  -- ".. and dropping the oldest of an empty list do nothing." (RULES 4.3)
   abbrev pub dropOldest : Side → Lists X → Lists X
   dropOldest i s = setGhosts i (dropLast (ghosts i s)) s

@@ -1,4 +1,4 @@
--- The rules of document 01. Assumes nothing.
+-- The rules, docs/RULES.md. Assumes nothing.
 pub mod Lists
 pub mod State
 pub mod Calls

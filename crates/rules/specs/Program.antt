@@ -1,6 +1,7 @@
--- The program (01, "Trace bytes"): input bytes to output bytes. Assumes nothing.
+-- The program (RULES 9): input bytes to output bytes. Assumes nothing.
 --
--- "The program reads a kind byte (1 ARC, 2 CAR), c (a number in a frame's form), then operations, from standard input."
+-- "The program reads a kind byte (1 ARC, 2 CAR), c (a number in a frame's form), then operations, from standard
+-- input." (RULES 9.1)
 use Prim.Native.Nat.{ℕ, _+_}
 use Prim.Native.Char.{code}
 use Prim.Native.String.{String, [] as end, _∷_ as _then_}
@@ -27,7 +28,7 @@ abbrev pub bytes : String → List ℕ
 bytes end = []
 bytes (c then t) = code c ∷ bytes t
 
--- ---- "Lines, numbers in decimal, each ended by byte 0A"
+-- ---- "Lines, numbers in decimal, each ended by byte 0A" (RULES 9.2)
 abbrev pub line : List ℕ → List ℕ
 line t = t ++ 0x0A ∷ []
 
@@ -36,13 +37,14 @@ placeText (ghost first) = bytes "b1"
 placeText (ghost second) = bytes "b2"
 placeText nowhere = bytes "--"
 
--- "`new out K F b1` (or `b2`)"
+-- "`new out K F b1` (or `b2`)" (RULES 9.2)
 abbrev pub victimText : Victim → List ℕ
 victimText nobody = []
 victimText (out k f p) = bytes " out " ++ decimal k ++ bytes " " ++ decimal f ++ bytes " " ++ placeText p
 
--- "`hit F`, `miss`, `new`, `new out K F b1` (or `b2`), `old F`, `none`, `gone F`, `absent`, `clear`, `see F`, `no` (peek); last `end N`, N the
--- operations done, or `stop R at O`". Answers that no operation gives have no line.
+-- "`hit F`, `miss`, `new`, `new out K F b1` (or `b2`), `old F`, `none`, `gone F`, `absent`, `clear`, `see F`, `no`
+-- (peek); last `end N`, N the operations done, or `stop R at O`" (RULES 9.2). Answers that no operation gives have no
+-- line.
 unfoldable pub textOf : Answer → List ℕ
 unfolding decimal
 textOf (Hit f) = line (bytes "hit " ++ decimal f)
@@ -73,21 +75,21 @@ unfolding textsOf
 told b = textsOf (b .answers) ++ textOf (answerOf b)
 
 -- ---- the kind byte, and c
--- "a kind byte (1 ARC, 2 CAR)"
+-- "a kind byte (1 ARC, 2 CAR)" (RULES 9.1)
 abbrev pub kindOf : ℕ → Option Kind
 kindOf b = cond (eqb b 1) (some kinds.Arc) (cond (eqb b 2) (some kinds.Car) none)
 
--- "(the program: 0 to 256)"
+-- "(the program: 0 to 256)" (RULES 1.1)
 abbrev pub maxReplayed : ℕ
 maxReplayed = 256
 
--- the operations, on a fresh cache; the first has the offset o ("O counted from byte 0 of the input")
+-- the operations, on a fresh cache; the first has the offset o ("O counted from byte 0 of the input" (RULES 9.2))
 unfoldable pub replay : Kind → ℕ → ℕ → List ℕ → List ℕ
 unfolding told runFrom Arc.does Arc.new Car.does Car.new
 replay kinds.Arc c o ops = told (batch Arc.does o ops (Arc.new c))
 replay kinds.Car c o ops = told (batch Car.does o ops (Car.new c))
 
--- "1 CAPACITY .. (program: c > 256)", "for a bad c, 1"
+-- "1 CAPACITY .. (program: c > 256)" (RULES 3.1), "for a bad c, 1" (RULES 9.2)
 unfoldable pub sized : Bool → Kind → ℕ → ℕ → List ℕ → List ℕ
 unfolding replay textOf
 sized true k c used bs = textOf (Stopped 1 1)
@@ -98,13 +100,13 @@ unfolding sized textOf
 withCapacity k (FrameValue c used) bs = sized (ltb maxReplayed c) k c used bs
 withCapacity k (FrameFaulty f) bs = textOf (Stopped (faultNumber f) (1 + faultPlace 0 f))
 
--- "4 OPERATION .. program: kind byte not 1 or 2"
+-- "4 OPERATION .. program: kind byte not 1 or 2" (RULES 3.4)
 unfoldable pub withKind : Option Kind → List ℕ → List ℕ
 unfolding withCapacity textOf readFrom
 withKind none bs = textOf (Stopped 4 0)
 withKind (some k) bs = withCapacity k (frameOf bs) bs
 
--- "Empty input: `stop 5 at 0`."
+-- "Empty input: `stop 5 at 0`." (RULES 9.3)
 unfoldable pub program : List ℕ → List ℕ
 unfolding withKind textOf
 program [] = textOf (Stopped 5 0)

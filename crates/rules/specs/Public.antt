@@ -1,4 +1,4 @@
--- The public calls on an area (01, "Refusal numbers"). Assumes nothing.
+-- The public calls on an area (RULES 3). Assumes nothing.
 --
 -- An area is handed in as what it reads as: a well-formed state of the policy that is called, or nothing.
 use Prim.Native.Nat.{ℕ, _+_, _*_}
@@ -12,19 +12,20 @@ use Rattle.rules.specs.Calls.{Call, Ask, Listing, Record, Answer, Made, 
 use Rattle.rules.specs.Counts.{Counts}
 use Rattle.rules.specs.Batch.{runFrom, batch, answerOf}
 
--- "`new` needs 24c + 64 words"
+-- "`new` needs 24c + 64 words" (RULES 2.2)
 abbrev pub wordsNeeded : ℕ → ℕ
 wordsNeeded c = 24 * c + 64
 
 module _ {S : Type 0} where
-  -- "1 CAPACITY: `new` with c > 1,024", "2 AREA: `new` with fewer than 24c + 64 words", 1 before 2; both leave the area unchanged
+  -- "1 CAPACITY: `new` with c > 1,024" (RULES 3.1), "2 AREA: `new` with fewer than 24c + 64 words" (RULES 3.2), 1
+  -- before 2; both leave the area unchanged
   unfoldable pub made : (ℕ → S) → ℕ → ℕ → Option S → Done (Option S)
   made new c words area =
       cond (ltb maxCapacity c) (done (Refused 1) area)
       (cond (ltb words (wordsNeeded c)) (done (Refused 2) area)
       (done Made (some (new c))))
 
-  -- "3 STATE: any other call on an area not well formed for that policy", before all else; all unchanged
+  -- "3 STATE: any other call on an area not well formed for that policy" (RULES 3.3), before all else; all unchanged
   unfoldable pub called : (Call → S → Done S) → Call → Option S → Done (Option S)
   called does k none = done (Refused 3) none
   called does k (some s) = let d = does k s in done (d .answer) (some (d .state))
@@ -35,7 +36,7 @@ pub record ListingDone (S : Type 0) : Type 0 where
   pub area : Option S
   pub records : List Record
 
--- "records past them keep what they held"; where there are too few, all do
+-- "records past them keep what they held" (RULES 7.1); where there are too few, all do
 abbrev pub written : List Record → List Record → List Record
 written l lent = cond (ltb (length lent) (length l)) lent (l ++ drop (length l) lent)
 

@@ -1,7 +1,7 @@
--- The state of a cache as lists, and the state rules that hold for every policy (01, "State rules"). Assumes nothing.
+-- The state of a cache as lists, and the state rules that hold for every policy (RULES 2). Assumes nothing.
 --
--- T1 and T2 hold the residents: ARC's lists, newest first; CAR's recent and frequent clock, each from its hand. B1 and B2 hold the ghosts, newest
--- first. c is the capacity.
+-- T1 and T2 hold the residents: ARC's lists, newest first; CAR's recent and frequent clock, each from its hand. B1 and
+-- B2 hold the ghosts, newest first. c is the capacity.
 use Prim.Native.Nat.{ℕ, _+_, _^_, _<_, _≤_}
 use mathlib.Core.List.{List, [], _∷_, _++_, map}
 use mathlib.Core.Bool.{Bool, cond}
@@ -104,7 +104,7 @@ module _ {X : Type 0} where
   abbrev pub seen : ℕ → Lists X → ℕ
   seen x s = times x (pages (s .T1)) + times x (pages (s .T2)) + times x (s .B1) + times x (s .B2)
 
-  -- "all pages, resident and ghost, are distinct; residents <= c; each ghost list <= c; 0 <= target <= c"
+  -- "all pages, resident and ghost, are distinct; residents <= c; each ghost list <= c; 0 <= target <= c" (RULES 2.6)
   pub record Sound (s : Lists X) : Type 0 where
     pub distinct : (x : ℕ) → seen x s ≤ 1
     pub room : residents s ≤ s .c
@@ -112,7 +112,7 @@ module _ {X : Type 0} where
     pub ghosts2 : length (s .B2) ≤ s .c
     pub aim : s .target ≤ s .c
 
--- "Page: any u64. Frame: any u32. Capacity c: 0 to 1,024"
+-- "Page: any u64. Frame: any u32. Capacity c: 0 to 1,024" (RULES 1.1)
 abbrev pub maxCapacity : ℕ
 maxCapacity = 1024
 

@@ -1,4 +1,4 @@
--- The test of an area, for any words of any length (01, "State rules"). Assumes nothing.
+-- The test of an area, for any words of any length (RULES 2). Assumes nothing.
 use mathlib.Core.Path.{_≡_}
 use mathlib.Core.Bool.{Bool, true, false, cond}
 use mathlib.Core.List.{List, [], _∷_}
@@ -59,7 +59,7 @@ deadTest c p =
     false)
     false
 
--- ---- "for ARC also T1+B1 <= c+1 and all four lists together <= 2c+1"
+-- ---- "for ARC also T1+B1 <= c+1 and all four lists together <= 2c+1" (RULES 2.7)
 unfoldable pub sumsTest : ℕ → ℕ → Parts → Bool
 sumsTest kind c p = cond (eqb kind 1) (cond (ltb (c + 1) (rowCount p)) false (leb (liveCount p) (2 * c + 1))) true
 

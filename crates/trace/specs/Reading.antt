@@ -1,4 +1,4 @@
--- Operations of a trace, and a whole trace (01, "Trace bytes" and "Refusal numbers"). Assumes nothing.
+-- Operations of a trace, and a whole trace (RULES 8 and 3). Assumes nothing.
 use Prim.Native.Nat.{ℕ, zero, suc, _+_, _-_}
 use mathlib.Core.List.{List, [], _∷_}
 use mathlib.Core.Bool.{cond}
@@ -22,8 +22,8 @@ faultNumber (Missing at) = 5
 faultNumber (NotShortest at) = 5
 faultNumber (TooLarge at) = 5
 
--- "Refusals 4 and 5 also give the byte offset of the operation's first byte": how far past that byte the offset lies, where the number starts at
--- the place `start` of the operation
+-- "Refusals 4 and 5 also give the byte offset of the operation's first byte" (RULES 3.22): how far past that byte the
+-- offset lies, where the number starts at the place `start` of the operation
 abbrev pub faultPlace : ℕ → Fault → ℕ
 faultPlace start f = 0
 
@@ -50,7 +50,8 @@ abbrev pub withBoth : List ℕ → Number → Parsed
 withBoth bs (Value page used) = withFrame page (1 + used) (frameOf (drop used bs))
 withBoth bs (Faulty f) = faulty 1 f
 
--- "Codes: 1 get, 2 insert, 3 remove, 4 clear, 5 peek; then page (1, 2, 3, 5) and frame (2)": the operation of a code, with the bytes after it
+-- "Codes: 1 get, 2 insert, 3 remove, 4 clear, 5 peek; then page (1, 2, 3, 5) and frame (2)" (RULES 8.1): the operation
+-- of a code, with the bytes after it
 unfoldable pub operationOf : ℕ → List ℕ → Parsed
 operationOf code bs =
     cond (eqb code 1) (withPage Get (pageOf bs))
@@ -85,8 +86,8 @@ readFrom o zero (b ∷ bs) = readAt o (operationOf b bs) (λ k. readFrom (o + 1)
 abbrev pub readingOf : List ℕ → Reading
 readingOf bs = readFrom 0 0 bs
 
--- "A trace check runs nothing and tells, for any bytes, how many operations read whole before the end or a refusal 4 or 5, that refusal's number
--- (0 for none), and its offset (the length for none)."
+-- "A trace check runs nothing and tells, for any bytes, how many operations read whole before the end or a refusal 4
+-- or 5, that refusal's number (0 for none), and its offset (the length for none)." (RULES 8.6)
 abbrev pub checkOf : List ℕ → Checked
 checkOf bs =
     let r = readingOf bs in

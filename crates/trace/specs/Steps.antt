@@ -1,7 +1,8 @@
--- The cursor over a trace (01, "Trace bytes"). Assumes nothing.
+-- The cursor over a trace (RULES 8). Assumes nothing.
 --
--- "On a refusal, or at or past the trace's end, the cursor stays where it is. The cursor over the trace gives itself back moved past one operation,
--- and what follows is handed on as the rest of the trace from that operation."
+-- "On a refusal, or at or past the trace's end, the cursor stays where it is. The cursor over the trace gives itself
+-- back moved past one operation, and what follows is handed on as the rest of the trace from that operation."
+-- (RULES 8.5)
 use Prim.Native.Nat.{ℕ, _+_}
 use mathlib.Core.List.{List, [], _∷_}
 use lib.ListN.{drop}

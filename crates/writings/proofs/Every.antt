@@ -1,5 +1,5 @@
--- EVERY WELL-FORMED STATE HAS A WRITING, reached by calls or not (01, "Every such state has a writing"), and no other
--- state has. In order: the writing of a state; of a policy's state; that no other has. Assumes nothing.
+-- EVERY WELL-FORMED STATE HAS A WRITING, reached by calls or not ("Every such state has a writing", RULES 2.10), and no
+-- other state has. In order: the writing of a state; of a policy's state; that no other has. Assumes nothing.
 use mathlib.Core.Path.{_≡_, refl, ap, _∙_}
 use mathlib.Core.Bool.{Bool, true, false}
 use mathlib.Core.Option.{some}

@@ -1,5 +1,5 @@
--- That a state has a writing: words, exactly as many as `new` needs, that are a writing of it (01, "Every such state
--- has a writing"). Assumes nothing.
+-- That a state has a writing: words, exactly as many as `new` needs, that are a writing of it ("Every such state has a
+-- writing", RULES 2.10). Assumes nothing.
 use mathlib.Core.Path.{_≡_}
 use mathlib.Core.List.{List}
 use mathlib.Core.Option.{some}
