@@ -1,0 +1,3 @@
+-- The laws of `lent`. Assumes nothing.
+pub mod Sevens
+pub mod Counting
