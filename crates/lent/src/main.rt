@@ -1,7 +1,7 @@
 // The test program `lent`: the two public calls that are lent a record of counts and a slice of records, in that form,
 // for both policies; and `words`. A caller that lends a struct is proved by hand. So each of the two has one caller
-// here, the shortest there is: it lends a local, and returns it beside the answer. The file stdout is written by hand
-// from document 01.
+// here, the shortest there is: it lends a local, and returns it beside the answer. It also tells what is left of the
+// header's unused words. The file stdout is written by hand from docs/RULES.md and docs/LAYOUT.md.
 use arc_core::ArcCore;
 use batch::Counts;
 use batch::Ran;
@@ -178,8 +178,42 @@ fn run_kind(area: &mut [u64], kind: Kind, other: Kind) {
     run_five(area, kind);
 }
 
+// Whether the words 4 to 42 of the header, in which nothing is kept, are as they were before `new`: sevens. No contract
+// says so.
+fn unused_kept(area: &[u64]) -> bool {
+    let mut i: usize = 4;
+    while i < 43 {
+        if i >= area.len() {
+            return false;
+        }
+        if area[i] != 7 {
+            return false;
+        }
+        i += 1;
+    }
+    true
+}
+
+fn word(area: &[u64], i: usize) -> u64 {
+    if i < area.len() {
+        return area[i];
+    }
+    0
+}
+
+fn put_header(area: &[u64]) {
+    let hint = word(area, 3);
+    let is_kept = unused_kept(area);
+    telling::field(b"header: word 3 is ", hint);
+    if is_kept {
+        telling::word(b", words 4 to 42 as before");
+    }
+    telling::word(b"\n");
+}
+
 fn main() {
-    let mut area = [0; 184];
+    let mut area = [7; 184];
     run_kind(&mut area, Kind::Arc, Kind::Car);
     run_kind(&mut area, Kind::Car, Kind::Arc);
+    put_header(&area);
 }
