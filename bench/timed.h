@@ -1,4 +1,4 @@
-/* What bench/check.c times: three calls that crates/timed exports, and the plain sums of bench/plain_sum.c. */
+/* What bench/check.c times: three calls that crates/bench_calls exports, and the plain sums of bench/plain_sum.c. */
 #include <stddef.h>
 #include <stdint.h>
 

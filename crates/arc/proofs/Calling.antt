@@ -10,11 +10,11 @@ use Rattle.rules.specs.Stages.{goesTo}
 use Rattle.rules.specs.Arc.{Arc, new, missed, roomFor, admitted, insertAt, got, removed, inserted, does}
 use Rattle.rules.specs.Car.{new as newState}
 use Rattle.rules.proofs.Closure.{arc-call}
-use Rattle.parts.specs.States.{residentAt}
+use Rattle.area_state.specs.States.{residentAt}
 use Rattle.area.specs.Stored.{arcOf}
-use Rattle.calls.specs.Policy.{arcPolicy}
-use Rattle.common.specs.Stages.{ofB2, entered}
-use Rattle.common.proofs.Lawful.{Lawful}
+use Rattle.contracts.specs.Policy.{arcPolicy}
+use Rattle.stages.specs.Stages.{ofB2, entered}
+use Rattle.stages.proofs.Lawful.{Lawful}
 use Rattle.arc.specs.Insert.{ready, made, stages}
 use Rattle.arc.proofs.Plain.{here, away, residents-plainly, full-plainly, seen-plainly, asked-plainly, fronted-plainly, removed-plainly, entered-plainly, hit-plainly}
 use Rattle.arc.proofs.Updating.{fronted-framed}

@@ -14,10 +14,10 @@ use Rattle.rules.specs.Ghosts.{recordIn, dropOldest}
 use Rattle.rules.specs.Stages.{ghostHit, turn}
 use Rattle.rules.specs.Arc.{Plain, toFront, admitted}
 use Rattle.rules.specs.Car.{Car, Resident}
-use Rattle.parts.specs.States.{residentAt, frontedAt, removedAt, evictedAt, enteredAtFront, newResident}
+use Rattle.area_state.specs.States.{residentAt, frontedAt, removedAt, evictedAt, enteredAtFront, newResident}
 use Rattle.area.specs.Stored.{plainly, arcOf}
 use Rattle.store.specs.Store.{droppedAt}
-use Rattle.common.specs.Common.{hitAt}
+use Rattle.stages.specs.Common.{hitAt}
 
 -- ---- the lists
 unfoldable pub plainlyIf : Option Resident → Option (Entry Plain)

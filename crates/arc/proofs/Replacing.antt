@@ -15,16 +15,16 @@ use Rattle.rules.specs.Stages.{turn}
 use Rattle.rules.specs.Arc.{Arc, Plain, putOut, replace}
 use Rattle.rules.proofs.ListLaws.{no-last, last-plus}
 use Rattle.rules.proofs.StateLaws.{Freed, put-out, turn-some}
-use Rattle.parts.specs.States.{residentAt, evictedAt}
-use Rattle.parts.proofs.Ends.{leaves-last}
+use Rattle.area_state.specs.States.{residentAt, evictedAt}
+use Rattle.area_state.proofs.Ends.{leaves-last}
 use Rattle.area.specs.Area.{sideOf}
 use Rattle.area.specs.Stored.{Stored, stateIn, plainly, arcOf}
 use Rattle.store.specs.Store.{LastIs}
-use Rattle.calls.specs.Policy.{arcPolicy}
-use Rattle.common.specs.Common.{HasResident, TurnIs}
-use Rattle.common.specs.Stages.{outOf, Chosen}
-use Rattle.common.proofs.Finding.{obeys}
-use Rattle.common.proofs.Turning.{turn-has}
+use Rattle.contracts.specs.Policy.{arcPolicy}
+use Rattle.stages.specs.Common.{HasResident, TurnIs}
+use Rattle.stages.specs.Stages.{outOf, Chosen}
+use Rattle.stages.proofs.Finding.{obeys}
+use Rattle.stages.proofs.Turning.{turn-has}
 use Rattle.arc.specs.Insert.{arcIn}
 use Rattle.arc.proofs.Plain.{plainlyIf, last-plainly, list-plainly, turn-plainly, sound-plainly, evicted-plainly}
 

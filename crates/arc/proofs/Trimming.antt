@@ -13,14 +13,14 @@ use Rattle.rules.specs.State.{Side, first, second, ghosts, residents, inAll}
 use Rattle.rules.specs.Ghosts.{dropOldest}
 use Rattle.rules.specs.Arc.{trimBy, trimmed}
 use Rattle.rules.specs.Car.{Car}
-use Rattle.parts.specs.Parts.{stateOf}
+use Rattle.area_state.specs.Parts.{stateOf}
 use Rattle.area.specs.Area.{sideOf}
 use Rattle.area.specs.Stored.{Stored, stateIn, Left, plainly, arcOf}
 use Rattle.store.specs.Store.{HasOldest, droppedAt}
-use Rattle.calls.specs.Policy.{arcPolicy}
-use Rattle.common.specs.Stages.{Stage}
-use Rattle.common.proofs.Finding.{state-c, obeys}
-use Rattle.common.proofs.Staging.{staged, stays, as-stage}
+use Rattle.contracts.specs.Policy.{arcPolicy}
+use Rattle.stages.specs.Stages.{Stage}
+use Rattle.stages.proofs.Finding.{state-c, obeys}
+use Rattle.stages.proofs.Staging.{staged, stays, as-stage}
 use Rattle.arc.specs.Insert.{arcIn}
 use Rattle.arc.proofs.Plain.{dropped-plainly}
 

@@ -7,7 +7,7 @@ use lib.Dec.{eqb}
 use Rattle.rules.specs.State.{Entry, withFrame, changed, without}
 use Rattle.rules.specs.Arc.{Plain, toFront}
 use Rattle.rules.specs.Car.{Car, Resident}
-use Rattle.parts.specs.States.{residentAt, framedAt, frontedAt}
+use Rattle.area_state.specs.States.{residentAt, framedAt, frontedAt}
 use Rattle.area.specs.Stored.{plainly, arcOf}
 use Rattle.arc.proofs.Plain.{without-plainly, fronted-plainly}
 

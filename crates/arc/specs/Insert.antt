@@ -7,10 +7,10 @@ use Rattle.rules.specs.Calls.{Place, ghost, nowhere, Old, Done, done, Replaced,
 use Rattle.rules.specs.Stages.{ghostHit}
 use Rattle.rules.specs.Arc.{Arc, replace, admitted, trimmed, toFront}
 use Rattle.rules.specs.Car.{Car}
-use Rattle.parts.specs.States.{residentAt, frontedAt, enteredAtFront}
+use Rattle.area_state.specs.States.{residentAt, frontedAt, enteredAtFront}
 use Rattle.area.specs.Stored.{stateIn, plainly, arcOf}
-use Rattle.calls.specs.Policy.{arcPolicy}
-use Rattle.common.specs.Stages.{Stages}
+use Rattle.contracts.specs.Policy.{arcPolicy}
+use Rattle.stages.specs.Stages.{Stages}
 
 -- the state of ARC that an area of capacity c is read as
 abbrev pub arcIn : ℕ → List ℕ → Arc

@@ -1,6 +1,6 @@
 // ARC (RULES 5; src/policy/arc.rs): what only ARC has in an insert: ghost lists are trimmed before a plain miss, and the
-// oldest is the victim. The calls are in `cache`.
-use common::Victim;
+// oldest is the victim. The calls are in `inner_calls`.
+use stages::Victim;
 ghost use mathlib.Core.Path.{_≡_};
 ghost use Prim.Native.Nat.{_+_, _<_};
 ghost use lib.ListN.{length};
@@ -9,9 +9,9 @@ ghost use Rattle.rules.specs.Ghosts.{dropOldest};
 ghost use Rattle.rules.specs.Arc.{trimmed, replace};
 ghost use Rattle.area.specs.Area.{sideOf};
 ghost use Rattle.area.specs.Stored.{Stored};
-ghost use Rattle.calls.specs.Policy.{arcPolicy};
-ghost use Rattle.common.specs.Common.{HasResident};
-ghost use Rattle.common.specs.Stages.{Stage, Chooses};
+ghost use Rattle.contracts.specs.Policy.{arcPolicy};
+ghost use Rattle.stages.specs.Common.{HasResident};
+ghost use Rattle.stages.specs.Stages.{Stage, Chooses};
 ghost use Rattle.arc.specs.Insert.{arcIn};
 
 // The ghost lists before a plain miss.
@@ -58,7 +58,7 @@ fn total(a: &[u64], c: usize) -> usize
     requires { ⌜ Stored c (now a) ⌝ }
     ensures { λ r. ⌜ r ≡ inAll (arcIn c (now (a .entry))) ⌝ }
 {
-    let t = common::residents(a, c);
+    let t = stages::residents(a, c);
     let b1 = store::recorded(a, c, 0);
     let b2 = store::recorded(a, c, 1);
     t + b1 + b2
@@ -69,7 +69,7 @@ pub fn oldest(a: &[u64], c: usize, in_b2: bool) -> Victim
     requires { ⌜ HasResident c (now a) ⌝ }
     ensures { λ r. ⌜ Chooses arcPolicy replace c (now (a .entry)) (now (a .entry)) «in_b2» r ⌝ }
 {
-    let list = common::turn(a, c, in_b2);
+    let list = stages::turn(a, c, in_b2);
     let slot = store::last(a, c, list);
     Victim {
         list,

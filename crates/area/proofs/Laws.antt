@@ -17,7 +17,7 @@ use Rattle.ghosts.specs.Ghosts as ghosts
 use Rattle.ghosts.specs.Ghosts.{CanRecord, CanForget}
 use Rattle.lookup.specs.Buckets.{bucketsOf}
 use Rattle.lookup.specs.Lookup.{findOf, look, placeOr, CanFind}
-use Rattle.parts.specs.Parts.{Parts, setTarget, setResidents, setGhosts, setLookup}
+use Rattle.area_state.specs.Parts.{Parts, setTarget, setResidents, setGhosts, setLookup}
 use Rattle.area.specs.Part.{part, splice}
 use Rattle.area.specs.Area.{ghostsAt, endAt, sideOf, residentsIn, ghostsIn, lookupIn, partsOf, Starts, Became, Answered}
 use Rattle.area.proofs.Part.{length-part, length-splice, take-splice, part-splice, part-above, part-below, drop-above, take-below}

@@ -10,8 +10,8 @@ use Rattle.lookup.specs.Buckets.{bucketsOf, placesOf}
 use Rattle.lookup.specs.Part as lookup
 use Rattle.lookup.specs.Changes.{CanReach}
 use Rattle.lookup.proofs.Table.{room-reach}
-use Rattle.parts.specs.Parts.{ghostsOf}
-use Rattle.parts.proofs.Making.{HaveRoom}
+use Rattle.area_state.specs.Parts.{ghostsOf}
+use Rattle.area_state.proofs.Making.{HaveRoom}
 use Rattle.area.specs.Area.{lookupIn, endAt, partsOf}
 use Rattle.area.proofs.Laws.{length-lookup, residents-room, ghosts-room}
 

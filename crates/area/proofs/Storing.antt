@@ -4,8 +4,8 @@ use mathlib.Core.Path.{ap, _∙_}
 use mathlib.Core.List.{List}
 use Prim.Native.Nat.{ℕ}
 use Rattle.rules.specs.Car.{Car}
-use Rattle.parts.specs.Parts.{Parts, stateOf}
-use Rattle.parts.proofs.HoldsAs.{Becomes}
+use Rattle.area_state.specs.Parts.{Parts, stateOf}
+use Rattle.area_state.proofs.HoldsAs.{Becomes}
 use Rattle.area.specs.Area.{Became}
 use Rattle.area.specs.Stored.{Stored, stateIn, Left}
 

@@ -6,7 +6,7 @@ use Prim.Native.Nat.{ℕ, _+_, _*_, _≤_}
 use lib.Dec.{eqb}
 use lib.ListN.{length, getD, drop}
 use Rattle.rules.specs.State.{Side, first, second}
-use Rattle.parts.specs.Parts.{Parts}
+use Rattle.area_state.specs.Parts.{Parts}
 use Rattle.area.specs.Part.{part}
 
 -- ---- the header: the kind, the capacity and the target. Word 3 is a hint for the lookup's buckets, on which nothing depends but time; the others are kept for what is to come

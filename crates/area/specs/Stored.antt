@@ -6,7 +6,7 @@ use lib.ListN.{length, drop}
 use Rattle.rules.specs.State.{Entry, entry}
 use Rattle.rules.specs.Arc.{Arc, Plain}
 use Rattle.rules.specs.Car.{Car, Resident}
-use Rattle.parts.specs.Parts.{Holds, stateOf}
+use Rattle.area_state.specs.Parts.{Holds, stateOf}
 use Rattle.area.specs.Area.{kindOf, capacityOf, endAt, partsOf}
 
 -- the words hold a cache of capacity c

@@ -3,7 +3,7 @@ ghost use mathlib.Core.Path.{_≡_};
 ghost use Prim.Native.Nat.{_+_, _*_, _<_};
 ghost use Rattle.cells.specs.Cells.{prevOf};
 ghost use Rattle.ghosts.specs.Ghosts.{countOf, linksOf, recordCell, recorded, forgotten, CanRecord, CanForget};
-ghost use Rattle.parts.specs.Parts.{setGhosts};
+ghost use Rattle.area_state.specs.Parts.{setGhosts};
 ghost use Rattle.area.specs.Area.{ghostsIn, sideOf, partsOf, Fit, Became, Answered};
 
 // How many pages the ghost list has.

@@ -11,7 +11,7 @@ pub mod resident_part;
 ghost use mathlib.Core.Path.{_≡_};
 ghost use Prim.Native.Nat.{_+_, _*_, _<_, _≤_};
 ghost use lib.ListN.{length};
-ghost use Rattle.parts.specs.Parts.{setTarget};
+ghost use Rattle.area_state.specs.Parts.{setTarget};
 ghost use Rattle.area.specs.Area.{kindOf, capacityOf, targetOf, sideOf, Starts, partsOf, Fit, Became};
 
 // How an area of capacity c is cut: a header, then the residents, B1, B2 and the lookup. B1 starts at

@@ -7,7 +7,7 @@ ghost use Rattle.lookup.specs.Buckets.{bucketsOf, placesOf};
 ghost use Rattle.lookup.specs.Part.{pageOf, linksOf};
 ghost use Rattle.lookup.specs.Lookup.{findOf, look, placeOr, CanFind};
 ghost use Rattle.lookup.specs.Changes.{putIn, taken, renamed, CanPut, CanTake, CanRename};
-ghost use Rattle.parts.specs.Parts.{setLookup};
+ghost use Rattle.area_state.specs.Parts.{setLookup};
 ghost use Rattle.area.specs.Area.{lookupIn, partsOf, Fit, Became};
 
 // Where the page x is, or before which it belongs.

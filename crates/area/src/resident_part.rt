@@ -4,7 +4,7 @@ ghost use Prim.Native.Nat.{_+_, _*_, _<_};
 ghost use Rattle.cells.specs.Cells.{nextOf, prevOf};
 ghost use Rattle.residents.specs.Residents.{linksOf, countOf, frameOf, listOf, bitOf};
 ghost use Rattle.residents.specs.Changes.{withFrame, withBit, promoted, sentBack, freed, topOf, addedFront, addedEnd, IsResident, CanAdd, CanExchange};
-ghost use Rattle.parts.specs.Parts.{setResidents};
+ghost use Rattle.area_state.specs.Parts.{setResidents};
 ghost use Rattle.area.specs.Area.{residentsIn, partsOf, Fit, Became, Answered};
 
 // How many slots list i has.

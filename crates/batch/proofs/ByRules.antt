@@ -8,9 +8,9 @@ use Rattle.rules.specs.Counts as counting
 use Rattle.rules.specs.Batch.{batch, answerOf}
 use Rattle.rules.specs.Public.{BatchDone, batched}
 use Rattle.state_check.specs.Check.{Words}
-use Rattle.calls.specs.Policy.{Policy, reads}
-use Rattle.calls.proofs.Exact.{Exact}
-use Rattle.calls.proofs.ByRules.{by-rules}
+use Rattle.contracts.specs.Policy.{Policy, reads}
+use Rattle.contracts.proofs.Exact.{Exact}
+use Rattle.contracts.proofs.ByRules.{by-rules}
 use Rattle.batch.specs.Outcomes.{countsIs, outcome, BatchOutcome}
 use Rattle.batch.specs.Writing.{gives, after, BatchByRules}
 use Rattle.batch.specs.declared.Counts.{Counts}

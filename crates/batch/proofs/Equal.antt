@@ -7,8 +7,8 @@ use Prim.Native.Nat.{ℕ}
 use Rattle.rules.specs.Counts as counting
 use Rattle.rules.specs.Public.{wordsNeeded, BatchDone}
 use Rattle.area.specs.Area.{capacityOf}
-use Rattle.calls.specs.Policy.{Policy, reads}
-use Rattle.calls.specs.Equal.{Same}
+use Rattle.contracts.specs.Policy.{Policy, reads}
+use Rattle.contracts.specs.Equal.{Same}
 use Rattle.batch.specs.Outcomes.{countsIs, ranIs, BatchOutcome}
 use Rattle.batch.specs.declared.Counts.{Counts}
 use Rattle.batch.specs.declared.Ran.{Ran}

@@ -5,11 +5,11 @@ use Prim.Native.Nat.{ℕ}
 use native.Mathlib.Omega.{arith}
 use borrow.Author.Needs.{needs}
 use Rattle.rules.specs.Public.{batched}
-use Rattle.calls.specs.Policy.{Policy, policyOf}
-use Rattle.calls.specs.Inner.{Good}
+use Rattle.contracts.specs.Policy.{Policy, policyOf}
+use Rattle.contracts.specs.Inner.{Good}
 use Rattle.rules.specs.declared.Kind.{Kind}
-use Rattle.calls.proofs.Exact.{Exact, exact-of}
-use Rattle.calls.proofs.Reading.{reads-none, reads-good}
+use Rattle.contracts.proofs.Exact.{Exact, exact-of}
+use Rattle.contracts.proofs.Reading.{reads-none, reads-good}
 use Rattle.opening.specs.Opening.{Opens}
 use Rattle.opening.specs.declared.Opened.{Opened}
 use Rattle.opening.specs.declared.Opened.the-variants.{Cache, Refused}

@@ -14,7 +14,7 @@ use Rattle.rules.specs.Arc as arc
 use Rattle.rules.specs.Arc.{Arc}
 use Rattle.rules.specs.Car.{Car, referenced}
 use Rattle.rules.proofs.Demand3.{does-pays}
-use Rattle.calls.specs.Policy.{policyOf}
+use Rattle.contracts.specs.Policy.{policyOf}
 use Rattle.rules.specs.declared.Kind.{Kind}
 use Rattle.rules.specs.declared.Kind.the-variants as kinds
 use Rattle.car.proofs.Replacing.{marks-few}

@@ -8,11 +8,11 @@ use lib.Dec.{eqb}
 use Rattle.rules.specs.Calls.{Answer, Finished, Stopped}
 use Rattle.rules.specs.Counts as counting
 use Rattle.rules.specs.Batch.{Batched, batch, answerOf}
-use Rattle.calls.specs.Policy.{Policy}
-use Rattle.calls.specs.Writing.{Exactly}
-use Rattle.calls.proofs.Accepting.{is3}
-use Rattle.calls.proofs.Exact.{Exact}
-use Rattle.calls.proofs.Refusing.{exactly}
+use Rattle.contracts.specs.Policy.{Policy}
+use Rattle.contracts.specs.Writing.{Exactly}
+use Rattle.contracts.proofs.Accepting.{is3}
+use Rattle.contracts.proofs.Exact.{Exact}
+use Rattle.contracts.proofs.Refusing.{exactly}
 use Rattle.batch.specs.Outcomes.{BatchOutcome}
 use Rattle.batch.specs.declared.Counts.{Counts}
 use Rattle.batch.proofs.ByRules.{batch-is, batch-refused}

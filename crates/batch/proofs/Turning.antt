@@ -25,8 +25,8 @@ use Rattle.rules.proofs.RunLaws.{batch-runs}
 use Rattle.area.specs.Area.{endAt}
 use Rattle.answers.specs.Answers.{replyIs}
 use Rattle.answers.specs.declared.Reply.{Reply}
-use Rattle.calls.specs.Policy.{Policy, policyOf, stateOf}
-use Rattle.calls.specs.Inner.{Good, Did}
+use Rattle.contracts.specs.Policy.{Policy, policyOf, stateOf}
+use Rattle.contracts.specs.Inner.{Good, Did}
 use Rattle.rules.specs.declared.Kind.{Kind}
 use Rattle.batch.specs.Outcomes.{countsIs, ranIs, Fits, Finishes}
 use Rattle.batch.specs.declared.Counts.{Counts}

@@ -13,8 +13,8 @@ use Rattle.rules.specs.Public.{wordsNeeded, batched, BatchDone}
 use Rattle.area.specs.Area.{capacityOf, endAt}
 use Rattle.answers.specs.Answers.{replyIs}
 use Rattle.answers.specs.declared.Reply.{Reply}
-use Rattle.calls.specs.Policy.{Policy, stateOf, reads}
-use Rattle.calls.specs.Inner.{Good}
+use Rattle.contracts.specs.Policy.{Policy, stateOf, reads}
+use Rattle.contracts.specs.Inner.{Good}
 use Rattle.batch.specs.declared.Counts.{Counts}
 use Rattle.batch.specs.declared.Ran.{Ran}
 use Rattle.batch.specs.declared.Ran.the-variants as ran

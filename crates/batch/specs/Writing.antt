@@ -4,8 +4,8 @@ use Prim.Native.Nat.{ℕ}
 use Rattle.rules.specs.Calls.{Answer, Refused}
 use Rattle.rules.specs.Counts as counting
 use Rattle.rules.specs.Batch.{batch, answerOf}
-use Rattle.calls.specs.Policy.{Policy}
-use Rattle.calls.specs.Writing.{ByRules}
+use Rattle.contracts.specs.Policy.{Policy}
+use Rattle.contracts.specs.Writing.{ByRules}
 use Rattle.batch.specs.Outcomes.{countsIs}
 use Rattle.batch.specs.declared.Counts.{Counts}
 

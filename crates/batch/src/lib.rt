@@ -13,8 +13,8 @@ use trace::Found;
 ghost use mathlib.Core.Path.{_≡_};
 ghost use Rattle.rules.specs.Counts.{noCounts, plus, counted};
 ghost use Rattle.answers.specs.Answers.{replyIs};
-ghost use Rattle.calls.specs.Policy.{policyOf};
-ghost use Rattle.calls.specs.Inner.{Good};
+ghost use Rattle.contracts.specs.Policy.{policyOf};
+ghost use Rattle.contracts.specs.Inner.{Good};
 ghost use Rattle.batch.specs.Outcomes.{countsIs, ranIs, Fits, Finishes, BatchOutcome};
 
 // What a batch did. `removals` are those that found their page.

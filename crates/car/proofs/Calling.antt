@@ -9,10 +9,10 @@ use Rattle.rules.specs.Car.{Car, touched, missed, roomFor, admitted, insertAt, 
 use Rattle.rules.proofs.ListLaws.{found-page}
 use Rattle.rules.proofs.Closure.{car-call}
 use Rattle.rules.proofs.Sweep.{replace-swept}
-use Rattle.parts.specs.States.{residentAt, markedAt, removedAt, enteredAtEnd, newResident}
-use Rattle.calls.specs.Policy.{carPolicy}
-use Rattle.common.specs.Stages.{ofB2, entered}
-use Rattle.common.proofs.Lawful.{Lawful}
+use Rattle.area_state.specs.States.{residentAt, markedAt, removedAt, enteredAtEnd, newResident}
+use Rattle.contracts.specs.Policy.{carPolicy}
+use Rattle.stages.specs.Stages.{ofB2, entered}
+use Rattle.stages.proofs.Lawful.{Lawful}
 use Rattle.car.specs.Insert.{ready, made, stages}
 use Rattle.car.proofs.Updating.{marked-framed}
 

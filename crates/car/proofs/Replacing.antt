@@ -13,17 +13,17 @@ use Rattle.rules.specs.Ghosts.{recordIn}
 use Rattle.rules.specs.Car.{Resident, Clocked, Car, car, withBit, marks, referenced, atEnd, at, handOf, hand, passed, evicted, stepThen, replace}
 use Rattle.rules.proofs.Sweep.{pass-law}
 use Rattle.rules.proofs.Trail.{replace-passes, replace-evicts}
-use Rattle.parts.specs.States.{residentAt, endedAt, evictedAt}
-use Rattle.parts.proofs.Ends.{leaves-first}
+use Rattle.area_state.specs.States.{residentAt, endedAt, evictedAt}
+use Rattle.area_state.proofs.Ends.{leaves-first}
 use Rattle.area.specs.Area.{sideOf}
 use Rattle.area.specs.Stored.{Stored, stateIn, Left}
 use Rattle.store.specs.Store.{IsSlot, FirstIs}
-use Rattle.common.specs.Common.{HasResident, TurnIs}
-use Rattle.common.proofs.Finding.{state-c, slot-at, obeys}
-use Rattle.common.proofs.Turning.{turn-has}
-use Rattle.common.proofs.Staging.{then-left}
-use Rattle.calls.specs.Policy.{carPolicy}
-use Rattle.common.specs.Stages.{Chooses}
+use Rattle.stages.specs.Common.{HasResident, TurnIs}
+use Rattle.stages.proofs.Finding.{state-c, slot-at, obeys}
+use Rattle.stages.proofs.Turning.{turn-has}
+use Rattle.stages.proofs.Staging.{then-left}
+use Rattle.contracts.specs.Policy.{carPolicy}
+use Rattle.stages.specs.Stages.{Chooses}
 use Rattle.car.specs.Replace.{StepIs}
 use Rattle.car.specs.declared.Stepped as declaredStep
 use Rattle.car.specs.declared.Stepped.the-variants.{Passed, Meets}

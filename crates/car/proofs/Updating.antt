@@ -6,7 +6,7 @@ use Prim.Native.Nat.{ℕ}
 use lib.Dec.{eqb}
 use Rattle.rules.specs.State.{withFrame, changed, changedIn}
 use Rattle.rules.specs.Car.{Car, car, Resident, withBit, touched}
-use Rattle.parts.specs.States.{residentAt, framedAt, markedAt}
+use Rattle.area_state.specs.States.{residentAt, framedAt, markedAt}
 
 twice : (x f : ℕ) (l : List Resident) → changed x (withBit true) (changed x (withFrame f) l) ≡ changed x (λ e. withBit true (withFrame f e)) l
 twice x f [] = refl

@@ -5,9 +5,9 @@ use Rattle.rules.specs.State.{withFrame, full}
 use Rattle.rules.specs.Calls.{Place, ghost, nowhere, Old, Done, done, Replaced, replaceIf}
 use Rattle.rules.specs.Stages.{ghostHit}
 use Rattle.rules.specs.Car.{Car, car, withBit, touched, replace, admitted}
-use Rattle.parts.specs.States.{residentAt, markedAt, enteredAtEnd}
-use Rattle.calls.specs.Policy.{carPolicy}
-use Rattle.common.specs.Stages.{Stages}
+use Rattle.area_state.specs.States.{residentAt, markedAt, enteredAtEnd}
+use Rattle.contracts.specs.Policy.{carPolicy}
+use Rattle.stages.specs.Stages.{Stages}
 
 -- what comes before "replace if full", by where the page is
 abbrev pub ready : Place → ℕ → Car → Car

@@ -6,11 +6,11 @@ use Prim.Native.Nat.{ℕ, _+_}
 use Rattle.rules.specs.State.{Side, residents}
 use Rattle.rules.specs.Calls.{replaced}
 use Rattle.rules.specs.Car.{referenced, stepThen, replace}
-use Rattle.parts.specs.States.{evictedAt}
+use Rattle.area_state.specs.States.{evictedAt}
 use Rattle.area.specs.Area.{sideOf}
 use Rattle.area.specs.Stored.{stateIn, Left}
 use Rattle.store.specs.Store.{HasSlot}
-use Rattle.common.specs.Stages.{outOf}
+use Rattle.stages.specs.Stages.{outOf}
 use Rattle.car.specs.declared.Stepped as declaredStep
 use Rattle.car.specs.declared.Stepped.the-variants.{Passed, Meets}
 

@@ -14,7 +14,7 @@ use batch::Counts;
 use batch::Ran;
 use batch::Tally;
 use car_core::CarCore;
-use fresh::Made;
+use empty_cache::Made;
 use listing::Listed;
 use listing::Record;
 use rules::Kind;
@@ -107,7 +107,7 @@ fn put_page(area: &[u64], c: usize, list: usize, cell: usize)
 {
     let place = place_of(c, list, cell);
     let page = page_of(area, c, place);
-    telling::field(b" ", page);
+    test_text::field(b" ", page);
 }
 
 // The pages of so many cells of the ring of a sentinel, from its first on.
@@ -127,7 +127,7 @@ fn put_t1(area: &[u64], c: usize)
     requires { ⌜ c ≤ 1024 ⌝ }
 {
     let n = count(area, 43);
-    telling::word(b"; T1");
+    test_text::word(b"; T1");
     put_ring(area, 3 * c + 46, c, n, c, 0);
 }
 
@@ -135,7 +135,7 @@ fn put_t2(area: &[u64], c: usize)
     requires { ⌜ c ≤ 1024 ⌝ }
 {
     let n = count(area, 44);
-    telling::word(b"; T2");
+    test_text::word(b"; T2");
     put_ring(area, 3 * c + 46, c + 1, n, c, 1);
 }
 
@@ -144,7 +144,7 @@ fn put_b1(area: &[u64], c: usize)
 {
     let start = 5 * c + 52;
     let n = count(area, start);
-    telling::word(b"; B1");
+    test_text::word(b"; B1");
     put_ring(area, start + 1, c, n, c, 2);
 }
 
@@ -153,17 +153,17 @@ fn put_b2(area: &[u64], c: usize)
 {
     let start = 7 * c + 57;
     let n = count(area, start);
-    telling::word(b"; B2");
+    test_text::word(b"; B2");
     put_ring(area, start + 1, c, n, c, 3);
 }
 
 fn put_target(area: &[u64]) {
     let target = word(area, 2);
-    telling::field(b"; target ", target);
+    test_text::field(b"; target ", target);
 }
 
 fn put_record(r: Record) {
-    telling::field(b" ", r.page);
+    test_text::field(b" ", r.page);
 }
 
 fn put_records(records: [Record; 1024], n: usize) {
@@ -193,15 +193,15 @@ fn put_list(area: &[u64], kind: Kind) {
     let answer = all.answer;
     let records = all.records;
     let n = listed(answer);
-    telling::word(b"; list");
+    test_text::word(b"; list");
     put_records(records, n);
 }
 
 // The numbers that the calls tell: how many are resident, the capacity, the target, the lengths of T1, T2, B1 and B2.
 fn put_counted(counted: Counted) {
     match counted {
-        Counted::Number(n) => telling::field(b" ", n),
-        Counted::Refused => telling::word(b" refused"),
+        Counted::Number(n) => test_text::field(b" ", n),
+        Counted::Refused => test_text::word(b" refused"),
     }
 }
 
@@ -238,7 +238,7 @@ fn put_lengths(area: &[u64], kind: Kind) {
 }
 
 fn put_numbers(area: &[u64], kind: Kind) {
-    telling::word(b"; numbers");
+    test_text::word(b"; numbers");
     put_sizes(area, kind);
     put_lengths(area, kind);
 }
@@ -255,10 +255,10 @@ fn put_held(area: &[u64], kind: Kind, page: u64) {
     match held(area, kind, page) {
         Held::Holds(b) => {
             if b {
-                telling::field(b" ", page);
+                test_text::field(b" ", page);
             }
         }
-        Held::Refused => telling::word(b" refused"),
+        Held::Refused => test_text::word(b" refused"),
     }
 }
 
@@ -279,7 +279,7 @@ fn put_high(area: &[u64], kind: Kind) {
 }
 
 fn put_holds(area: &[u64], kind: Kind) {
-    telling::word(b"; holds");
+    test_text::word(b"; holds");
     put_low(area, kind);
     put_high(area, kind);
 }
@@ -300,54 +300,54 @@ fn put_facts(area: &[u64], kind: Kind) {
 
 fn put_place(place: Place) {
     match place {
-        Place::B1 => telling::word(b" b1"),
-        Place::B2 => telling::word(b" b2"),
+        Place::B1 => test_text::word(b" b1"),
+        Place::B2 => test_text::word(b" b2"),
     }
 }
 
 fn put_out(page: u64, frame: u32, place: Place, steps: u64) {
-    telling::field(b" new out ", page);
-    telling::field(b" ", frame as u64);
+    test_text::field(b" new out ", page);
+    test_text::field(b" ", frame as u64);
     put_place(place);
-    telling::field(b" by ", steps);
+    test_text::field(b" by ", steps);
 }
 
 fn put_inserted(r: Inserted) {
     match r {
-        Inserted::New => telling::word(b" new"),
+        Inserted::New => test_text::word(b" new"),
         Inserted::Out {
             page,
             frame,
             place,
             steps,
         } => put_out(page, frame, place, steps),
-        Inserted::Old(frame) => telling::field(b" old ", frame as u64),
-        Inserted::None => telling::word(b" none"),
-        Inserted::Refused => telling::word(b" refused"),
+        Inserted::Old(frame) => test_text::field(b" old ", frame as u64),
+        Inserted::None => test_text::word(b" none"),
+        Inserted::Refused => test_text::word(b" refused"),
     }
 }
 
 fn put_got(r: Got) {
     match r {
-        Got::Hit(frame) => telling::field(b" hit ", frame as u64),
-        Got::Miss => telling::word(b" miss"),
-        Got::Refused => telling::word(b" refused"),
+        Got::Hit(frame) => test_text::field(b" hit ", frame as u64),
+        Got::Miss => test_text::word(b" miss"),
+        Got::Refused => test_text::word(b" refused"),
     }
 }
 
 fn put_gone(r: Gone) {
     match r {
-        Gone::Frame(frame) => telling::field(b" gone ", frame as u64),
-        Gone::Absent => telling::word(b" absent"),
-        Gone::Refused => telling::word(b" refused"),
+        Gone::Frame(frame) => test_text::field(b" gone ", frame as u64),
+        Gone::Absent => test_text::word(b" absent"),
+        Gone::Refused => test_text::word(b" refused"),
     }
 }
 
 fn put_seen(r: Seen) {
     match r {
-        Seen::See(frame) => telling::field(b" see ", frame as u64),
-        Seen::No => telling::word(b" no"),
-        Seen::Refused => telling::word(b" refused"),
+        Seen::See(frame) => test_text::field(b" see ", frame as u64),
+        Seen::No => test_text::word(b" no"),
+        Seen::Refused => test_text::word(b" refused"),
     }
 }
 
@@ -420,7 +420,7 @@ fn run_remove(area: &mut [u64], kind: Kind, page: u64) {
 
 fn run_clear(area: &mut [u64], kind: Kind) {
     clear(area, kind);
-    telling::word(b" clear");
+    test_text::word(b" clear");
 }
 
 fn run_peek(area: &[u64], kind: Kind, page: u64) {
@@ -454,7 +454,7 @@ fn run_all(area: &mut [u64], kind: Kind, trace: &[u8]) {
                 return;
             }
             Found::Refused { number, .. } => {
-                telling::field(b" refusal ", number as u64);
+                test_text::field(b" refusal ", number as u64);
                 return;
             }
         }
@@ -464,11 +464,11 @@ fn run_all(area: &mut [u64], kind: Kind, trace: &[u8]) {
 
 // A bench case: an empty cache, the operations, and the state after them.
 fn bench(area: &mut [u64], name: &[u8], kind: Kind, c: u64, trace: &[u8]) {
-    telling::word(name);
+    test_text::word(name);
     make(area, kind, c);
     run_all(area, kind, trace);
     put_facts(area, kind);
-    telling::word(b"\n");
+    test_text::word(b"\n");
 }
 
 // The operations of P1 and P2 are the same, and those of P4 and P7.
@@ -587,31 +587,31 @@ fn same(area: &[u64], other: &[u64]) -> bool {
 
 fn put_same(area: &[u64], other: &[u64]) {
     if same(area, other) {
-        telling::word(b", area unchanged\n");
+        test_text::word(b", area unchanged\n");
         return;
     }
-    telling::word(b", area changed\n");
+    test_text::word(b", area changed\n");
 }
 
 fn put_after(area: &[u64], other: &[u64]) {
     if same(area, other) {
-        telling::word(b", area as after the operations done\n");
+        test_text::word(b", area as after the operations done\n");
         return;
     }
-    telling::word(b", area not as after the operations done\n");
+    test_text::word(b", area not as after the operations done\n");
 }
 
 fn put_made(made: Made) {
     match made {
-        Made::Made => telling::word(b"made"),
-        Made::Refused(n) => telling::field(b"refusal ", n as u64),
+        Made::Made => test_text::word(b"made"),
+        Made::Refused(n) => test_text::field(b"refusal ", n as u64),
     }
 }
 
 fn put_kind(kind: Kind) {
     match kind {
-        Kind::Arc => telling::word(b", ARC: "),
-        Kind::Car => telling::word(b", CAR: "),
+        Kind::Arc => test_text::word(b", ARC: "),
+        Kind::Car => test_text::word(b", CAR: "),
     }
 }
 
@@ -619,14 +619,14 @@ fn put_kind(kind: Kind) {
 fn put_words(area: &[u64]) {
     let n = area.len();
     if n < 24640 {
-        telling::field(b" in ", n as u64);
-        telling::word(b" words");
+        test_text::field(b" in ", n as u64);
+        test_text::word(b" words");
     }
 }
 
 // `new` on an area whose words are known.
 fn try_new(area: &mut [u64], other: &mut [u64], kind: Kind, c: u64) {
-    telling::field(b"new ", c);
+    test_text::field(b"new ", c);
     put_words(area);
     put_kind(kind);
     copy(area, other);
@@ -642,8 +642,8 @@ fn try_both(area: &mut [u64], other: &mut [u64], c: u64) {
 
 // Calls that are refused as the area is of ARC and they are of CAR.
 fn try_call(area: &mut [u64], other: &mut [u64], name: &[u8], trace: &[u8]) {
-    telling::word(name);
-    telling::word(b", an ARC area given to CAR:");
+    test_text::word(name);
+    test_text::word(b", an ARC area given to CAR:");
     copy(area, other);
     run_all(area, Kind::Car, trace);
     put_same(area, other);
@@ -662,11 +662,11 @@ fn sevens() -> Counts {
 }
 
 fn put_count(n: u64) {
-    telling::field(b" ", n);
+    test_text::field(b" ", n);
 }
 
 fn put_counts(n: Counts) {
-    telling::word(b", counts");
+    test_text::word(b", counts");
     put_count(n.gets);
     put_count(n.get_hits);
     put_count(n.updates);
@@ -677,15 +677,15 @@ fn put_counts(n: Counts) {
 }
 
 fn put_stopped(number: u8, offset: u64) {
-    telling::field(b"refusal ", number as u64);
-    telling::field(b" at ", offset);
+    test_text::field(b"refusal ", number as u64);
+    test_text::field(b" at ", offset);
 }
 
 fn put_ran(ran: Ran) {
     match ran {
-        Ran::Done(n) => telling::field(b"done ", n),
+        Ran::Done(n) => test_text::field(b"done ", n),
         Ran::Stopped { number, offset } => put_stopped(number, offset),
-        Ran::Refused => telling::word(b"refusal 3"),
+        Ran::Refused => test_text::word(b"refusal 3"),
     }
 }
 
@@ -700,33 +700,33 @@ fn run_batch(area: &mut [u64], kind: Kind, trace: &[u8]) {
 
 // A batch; then whether the area is what the operations before the refusal make of it.
 fn try_batch(area: &mut [u64], other: &[u64], name: &[u8], kind: Kind, trace: &[u8]) {
-    telling::word(name);
+    test_text::word(name);
     run_batch(area, kind, trace);
     put_after(area, other);
 }
 
 fn put_listed(answer: Listed) {
     match answer {
-        Listed::Count(n) => telling::field(b"listed ", n),
-        Listed::Room => telling::word(b"refusal 6"),
-        Listed::Refused => telling::word(b"refusal 3"),
+        Listed::Count(n) => test_text::field(b"listed ", n),
+        Listed::Room => test_text::word(b"refusal 6"),
+        Listed::Refused => test_text::word(b"refusal 3"),
     }
 }
 
 fn try_listing(area: &[u64], name: &[u8], room: usize) {
-    telling::word(name);
+    test_text::word(name);
     let plan = listing::prepare(area, Kind::Car, room);
     let answer = plan.answer;
     put_listed(answer);
-    telling::word(b"\n");
+    test_text::word(b"\n");
 }
 
 fn try_list_all(area: &[u64], name: &[u8]) {
-    telling::word(name);
+    test_text::word(name);
     let all = listing::list_all(area, Kind::Car);
     let answer = all.answer;
     put_listed(answer);
-    telling::word(b"\n");
+    test_text::word(b"\n");
 }
 
 // One word less than the largest cache needs.
@@ -784,11 +784,11 @@ fn strange_batch(area: &mut [u64], other: &mut [u64]) {
 }
 
 fn strange_numbers(area: &[u64]) {
-    telling::word(b"an ARC area given to CAR");
+    test_text::word(b"an ARC area given to CAR");
     put_numbers(area, Kind::Car);
-    telling::word(b"; holds");
+    test_text::word(b"; holds");
     put_held(area, Kind::Car, 5);
-    telling::word(b"\n");
+    test_text::word(b"\n");
 }
 
 fn strangers(area: &mut [u64], other: &mut [u64]) {

@@ -22,12 +22,12 @@ use Rattle.rules.specs.Demand3.{OneOut}
 use Rattle.rules.proofs.RunLaws.{batch-runs}
 use Rattle.rules.proofs.Demand3.{does-pays, run-pays, room-ends, room-full, insert-one-out}
 use Rattle.rules.proofs.ClosureCar.{does-obeys, new-obeys}
-use Rattle.calls.specs.Policy.{carPolicy, reads}
-use Rattle.calls.specs.Outer.{Outcome, Making}
-use Rattle.calls.specs.Writing.{WritingOf}
-use Rattle.calls.proofs.Exact.{car-exact}
-use Rattle.calls.proofs.Reading.{reads-sound, reads-complete}
-use Rattle.calls.proofs.Outcomes.{outcome-is, making-is}
+use Rattle.contracts.specs.Policy.{carPolicy, reads}
+use Rattle.contracts.specs.Outer.{Outcome, Making}
+use Rattle.contracts.specs.Writing.{WritingOf}
+use Rattle.contracts.proofs.Exact.{car-exact}
+use Rattle.contracts.proofs.Reading.{reads-sound, reads-complete}
+use Rattle.contracts.proofs.Outcomes.{outcome-is, making-is}
 use Rattle.batch.specs.Outcomes.{countsIs, ranIs, BatchOutcome}
 use Rattle.batch.specs.declared.Counts as batches
 use Rattle.batch.specs.declared.Ran.{Ran}

@@ -12,8 +12,8 @@ use Rattle.rules.specs.Car.{Car, roomFor, does}
 use Rattle.rules.specs.Demand3 as states
 use Rattle.rules.specs.Demand3.{Ends, OneOut}
 use Rattle.state_check.specs.Check.{Words}
-use Rattle.calls.specs.Policy.{carPolicy}
-use Rattle.calls.specs.Writing.{WritingOf}
+use Rattle.contracts.specs.Policy.{carPolicy}
+use Rattle.contracts.specs.Writing.{WritingOf}
 
 -- "hand steps plus pages still referenced at the end never exceed r0 plus hits plus evictions" (RULES 10.3): the area
 -- v is a writing of a state again, and the counts n pay for the hand steps from the state s on

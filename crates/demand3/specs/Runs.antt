@@ -3,8 +3,8 @@ use mathlib.Core.List.{List}
 use Prim.Native.Nat.{ℕ}
 use Rattle.rules.specs.Calls.{Call, Question, Answer}
 use Rattle.rules.specs.Counts.{Counts, noCounts, counted, plus}
-use Rattle.calls.specs.Policy.{Policy}
-use Rattle.calls.specs.Outer.{Outcome, Told, Making}
+use Rattle.contracts.specs.Policy.{Policy}
+use Rattle.contracts.specs.Outer.{Outcome, Told, Making}
 use Rattle.batch.specs.Outcomes.{countsIs, ranIs, BatchOutcome}
 use Rattle.batch.specs.declared.Counts as declared
 use Rattle.batch.specs.declared.Ran.{Ran}

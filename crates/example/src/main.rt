@@ -3,7 +3,7 @@
 use answers::Got;
 use answers::Inserted;
 use arc_core::ArcCore;
-use fresh::Made;
+use empty_cache::Made;
 use libc::STDOUT_FILENO;
 
 // A line: two words, and a number after each.

@@ -22,11 +22,11 @@ use Rattle.answers.specs.declared.Got.{Got}
 use Rattle.answers.specs.declared.Got.the-variants as got
 use Rattle.answers.specs.declared.Inserted.{Inserted}
 use Rattle.answers.specs.declared.Inserted.the-variants as inserted
-use Rattle.calls.specs.Policy.{arcPolicy, stateOf}
-use Rattle.calls.specs.Inner.{Good, Did}
-use Rattle.calls.specs.Outer.{Making}
-use Rattle.calls.proofs.Exact.{arc-exact}
-use Rattle.calls.proofs.Reading.{reads-none}
+use Rattle.contracts.specs.Policy.{arcPolicy, stateOf}
+use Rattle.contracts.specs.Inner.{Good, Did}
+use Rattle.contracts.specs.Outer.{Making}
+use Rattle.contracts.proofs.Exact.{arc-exact}
+use Rattle.contracts.proofs.Reading.{reads-none}
 use Rattle.opening.specs.Opening.{Opens}
 use Rattle.opening.specs.declared.Opened.{Opened}
 use Rattle.opening.specs.declared.Opened.the-variants as opened

@@ -14,9 +14,9 @@ use Rattle.rules.specs.Public.{wordsNeeded}
 use Rattle.area.specs.Area.{capacityOf}
 use Rattle.area.specs.Part.{part}
 use Rattle.answers.specs.Answers.{insertedIs}
-use Rattle.calls.specs.Policy.{arcPolicy, stateOf, reads}
-use Rattle.calls.specs.Inner.{Good}
-use Rattle.calls.specs.Outer.{Making}
+use Rattle.contracts.specs.Policy.{arcPolicy, stateOf, reads}
+use Rattle.contracts.specs.Inner.{Good}
+use Rattle.contracts.specs.Outer.{Making}
 use Rattle.guests.specs.declared.Served.{Served}
 use Rattle.guests.specs.declared.Served.the-variants as served
 use Rattle.guests.specs.declared.Checked.{Checked}

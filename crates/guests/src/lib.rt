@@ -9,13 +9,13 @@
 use answers::Got;
 use answers::Inserted;
 use arc_core::ArcCore;
-use fresh::Made;
+use empty_cache::Made;
 use opening::Opened;
 use rules::Kind;
 ghost use mathlib.Core.Path.{_≡_};
 ghost use Prim.Native.Nat.{_<_, _≤_};
 ghost use lib.ListN.{length};
-ghost use Rattle.calls.specs.Outer.{madeIs};
+ghost use Rattle.contracts.specs.Outer.{madeIs};
 ghost use Rattle.guests.specs.Guests.{hits as hitsOf, servedIs, Ready, Faulted, AllReady, Checks, Tells, Started, Alone, Stepped, Even, Ran, Rounds};
 
 // What a page fault comes to. Resident: the page is in this frame; the frame that was offered is still free. Filled: the page was not resident, and
@@ -56,11 +56,11 @@ fn fault(area: &mut [u64], page: u64, frame: u32) -> Served
     ensures { λ r. ⌜ Faulted page frame (now (area .entry)) (now (area .exit)) (servedIs r) ⌝ }
 {
     let c = area::capacity(area) as usize;
-    let got = cache::get(area, c, Kind::Arc, page);
+    let got = inner_calls::get(area, c, Kind::Arc, page);
     match got {
         Got::Hit(f) => Served::Resident(f),
         Got::Miss => {
-            let r = cache::insert(area, c, Kind::Arc, page, frame);
+            let r = inner_calls::insert(area, c, Kind::Arc, page, frame);
             Served::Filled(r)
         }
         // An inner call never refuses: it is proved that this is not reached.

@@ -15,7 +15,7 @@ ghost use lib.ListN.{length};
 // ---- words
 
 fn pair(bytes: &[u8], at: usize) -> u64 {
-    let n = telling::pair_at(bytes, at);
+    let n = test_text::pair_at(bytes, at);
     n as u64
 }
 
@@ -24,7 +24,7 @@ fn half_at(bytes: &[u8], at: usize) -> u64
 {
     let low = pair(bytes, at);
     let high = pair(bytes, at + 2);
-    telling::plus(low, (high % 65536) * 65536)
+    test_text::plus(low, (high % 65536) * 65536)
 }
 
 // Word i of those that were read.
@@ -33,7 +33,7 @@ fn word_at(bytes: &[u8], i: usize) -> u64 {
         let at = 8 * i;
         let low = half_at(bytes, at);
         let high = half_at(bytes, at + 4);
-        return telling::plus(low, (high % 4294967296) * 4294967296);
+        return test_text::plus(low, (high % 4294967296) * 4294967296);
     }
     0
 }
@@ -70,12 +70,12 @@ fn unchanged(area: &[u64], bytes: &[u8]) -> bool {
 // ---- the calls
 
 fn get_refused(area: &mut [u64], kind: Kind) -> bool {
-    let r = public::get(area, kind, 5);
+    let r = public_calls::get(area, kind, 5);
     if let Got::Refused = r { true } else { false }
 }
 
 fn insert_refused(area: &mut [u64], kind: Kind) -> bool {
-    let r = public::insert(area, kind, 5, 7);
+    let r = public_calls::insert(area, kind, 5, 7);
     if let Inserted::Refused = r {
         true
     } else {
@@ -84,12 +84,12 @@ fn insert_refused(area: &mut [u64], kind: Kind) -> bool {
 }
 
 fn remove_refused(area: &mut [u64], kind: Kind) -> bool {
-    let r = public::remove(area, kind, 5);
+    let r = public_calls::remove(area, kind, 5);
     if let Gone::Refused = r { true } else { false }
 }
 
 fn clear_refused(area: &mut [u64], kind: Kind) -> bool {
-    let r = public::clear(area, kind);
+    let r = public_calls::clear(area, kind);
     if let Cleared::Refused = r {
         true
     } else {
@@ -115,36 +115,36 @@ fn all_refused(area: &mut [u64], kind: Kind) -> bool {
 
 fn put_answered(area: &mut [u64], kind: Kind) {
     if !all_refused(area, kind) {
-        telling::word(b" answered");
+        test_text::word(b" answered");
     }
 }
 
 fn put_changed(area: &[u64], bytes: &[u8]) {
     if !unchanged(area, bytes) {
-        telling::word(b" changed");
+        test_text::word(b" changed");
     }
 }
 
 fn put_refused(area: &mut [u64], kind: Kind, bytes: &[u8]) {
-    telling::word(b"3");
+    test_text::word(b"3");
     put_answered(area, kind);
     put_changed(area, bytes);
 }
 
 fn put_kind(area: &mut [u64], kind: Kind, bytes: &[u8]) {
-    match public::len(area, kind) {
-        Counted::Number(n) => telling::field(b"ok ", n),
+    match public_calls::len(area, kind) {
+        Counted::Number(n) => test_text::field(b"ok ", n),
         Counted::Refused => put_refused(area, kind, bytes),
     }
 }
 
 fn put_area(area: &mut [u64], bytes: &[u8]) {
     fill(area, bytes);
-    telling::word(b"arc ");
+    test_text::word(b"arc ");
     put_kind(area, Kind::Arc, bytes);
-    telling::word(b" car ");
+    test_text::word(b" car ");
     put_kind(area, Kind::Car, bytes);
-    telling::word(b"\n");
+    test_text::word(b"\n");
 }
 
 // ---- standard input
@@ -153,7 +153,7 @@ fn put_area(area: &mut [u64], bytes: &[u8]) {
 fn read_area(area: &mut [u64], bytes: &mut [u8], n: usize) -> bool {
     if n <= area.len() {
         if n < 8192 {
-            if telling::read(bytes, 8 * n) {
+            if test_text::read(bytes, 8 * n) {
                 put_area(&mut area[..n], bytes);
                 return true;
             }
@@ -163,8 +163,8 @@ fn read_area(area: &mut [u64], bytes: &mut [u8], n: usize) -> bool {
 }
 
 fn read_case(area: &mut [u64], bytes: &mut [u8]) -> bool {
-    if telling::read(bytes, 2) {
-        let n = telling::pair_at(bytes, 0);
+    if test_text::read(bytes, 2) {
+        let n = test_text::pair_at(bytes, 0);
         return read_area(area, bytes, n);
     }
     false

@@ -7,11 +7,11 @@ use batch::Counts;
 use batch::Ran;
 use batch::Tally;
 use car_core::CarCore;
-use fresh::Made;
+use empty_cache::Made;
 use listing::Listed;
 use listing::Record;
 use rules::Kind;
-ghost use Rattle.calls.specs.Policy.{policyOf};
+ghost use Rattle.contracts.specs.Policy.{policyOf};
 ghost use Rattle.batch.specs.Outcomes.{ranIs, BatchOutcome};
 ghost use Rattle.listing.specs.Outcome.{ListingOutcome};
 ghost use Rattle.lent.specs.Lent.{sevens};
@@ -43,36 +43,36 @@ fn lent_list(area: &[u64], kind: Kind) -> Listing
 
 fn put_ran(ran: Ran) {
     match ran {
-        Ran::Done(n) => telling::field(b"done ", n),
+        Ran::Done(n) => test_text::field(b"done ", n),
         Ran::Stopped { number, offset } => {
-            telling::field(b"refusal ", number as u64);
-            telling::field(b" at ", offset);
+            test_text::field(b"refusal ", number as u64);
+            test_text::field(b" at ", offset);
         }
-        Ran::Refused => telling::word(b"refusal 3"),
+        Ran::Refused => test_text::word(b"refusal 3"),
     }
 }
 
 fn put_counts(n: Counts) {
-    telling::field(b"; counts ", n.gets);
-    telling::field(b" ", n.get_hits);
-    telling::field(b" ", n.updates);
-    telling::field(b" ", n.new_pages);
-    telling::field(b" ", n.evictions);
-    telling::field(b" ", n.steps);
-    telling::field(b" ", n.removals);
+    test_text::field(b"; counts ", n.gets);
+    test_text::field(b" ", n.get_hits);
+    test_text::field(b" ", n.updates);
+    test_text::field(b" ", n.new_pages);
+    test_text::field(b" ", n.evictions);
+    test_text::field(b" ", n.steps);
+    test_text::field(b" ", n.removals);
 }
 
 fn put_listed(answer: Listed) {
     match answer {
-        Listed::Count(n) => telling::field(b"; listed ", n),
-        Listed::Room => telling::word(b"; refusal 6"),
-        Listed::Refused => telling::word(b"; refusal 3"),
+        Listed::Count(n) => test_text::field(b"; listed ", n),
+        Listed::Room => test_text::word(b"; refusal 6"),
+        Listed::Refused => test_text::word(b"; refusal 3"),
     }
 }
 
 fn put_record(r: Record) {
-    telling::field(b", ", r.page);
-    telling::field(b" ", r.frame as u64);
+    test_text::field(b", ", r.page);
+    test_text::field(b" ", r.frame as u64);
 }
 
 fn put_records(records: [Record; 4]) {
@@ -98,7 +98,7 @@ fn put_listing(l: Listing) {
     let records = l.records;
     put_listed(answer);
     put_records(records);
-    telling::word(b"\n");
+    test_text::word(b"\n");
 }
 
 // ---- the runs: a batch with counts of sevens, then a listing into records of sevens
@@ -112,8 +112,8 @@ fn words(kind: Kind, c: u64) -> u64 {
 
 fn put_kind(kind: Kind) {
     match kind {
-        Kind::Arc => telling::word(b"ARC"),
-        Kind::Car => telling::word(b"CAR"),
+        Kind::Arc => test_text::word(b"ARC"),
+        Kind::Car => test_text::word(b"CAR"),
     }
 }
 
@@ -137,12 +137,12 @@ fn run(area: &mut [u64], kind: Kind, trace: &[u8]) {
 fn run_new(area: &mut [u64], kind: Kind, c: u64, trace: &[u8]) {
     let n = words(kind, c);
     put_kind(kind);
-    telling::field(b", ", c);
-    telling::field(b" frames in ", n);
-    telling::word(b" words: ");
-    match public::new(area, kind, c) {
+    test_text::field(b", ", c);
+    test_text::field(b" frames in ", n);
+    test_text::word(b" words: ");
+    match public_calls::new(area, kind, c) {
         Made::Made => run(area, kind, trace),
-        Made::Refused(number) => telling::field(b"refusal ", number as u64),
+        Made::Refused(number) => test_text::field(b"refusal ", number as u64),
     }
 }
 
@@ -156,7 +156,7 @@ fn run_all(area: &mut [u64], kind: Kind) {
 
 // The cache that stands: a get, and a code that is none.
 fn run_bad(area: &mut [u64], kind: Kind) {
-    telling::word(b"  then a get and a bad code: ");
+    test_text::word(b"  then a get and a bad code: ");
     run(area, kind, b"\x01\x04\x06");
 }
 
@@ -173,7 +173,7 @@ fn run_five(area: &mut [u64], kind: Kind) {
 fn run_kind(area: &mut [u64], kind: Kind, other: Kind) {
     run_all(area, kind);
     run_bad(area, kind);
-    telling::word(b"  given to the other policy: ");
+    test_text::word(b"  given to the other policy: ");
     run(area, other, b"\x01\x04");
     run_five(area, kind);
 }
@@ -204,11 +204,11 @@ fn word(area: &[u64], i: usize) -> u64 {
 fn put_header(area: &[u64]) {
     let hint = word(area, 3);
     let is_kept = unused_kept(area);
-    telling::field(b"header: word 3 is ", hint);
+    test_text::field(b"header: word 3 is ", hint);
     if is_kept {
-        telling::word(b", words 4 to 42 as before");
+        test_text::word(b", words 4 to 42 as before");
     }
-    telling::word(b"\n");
+    test_text::word(b"\n");
 }
 
 fn main() {

@@ -8,9 +8,9 @@ use Rattle.rules.specs.Calls as rules
 use Rattle.rules.specs.Calls.{Ask, Listing, Answer, Refused}
 use Rattle.rules.specs.Public.{ListingDone, listed, written}
 use Rattle.state_check.specs.Check.{Words}
-use Rattle.calls.specs.Policy.{Policy, reads}
-use Rattle.calls.proofs.Exact.{Exact}
-use Rattle.calls.proofs.ByRules.{by-rules}
+use Rattle.contracts.specs.Policy.{Policy, reads}
+use Rattle.contracts.proofs.Exact.{Exact}
+use Rattle.contracts.proofs.ByRules.{by-rules}
 use Rattle.listing.specs.Outcome.{recordIs, recordsAre, listedIs, listingDone, ListingOutcome}
 use Rattle.listing.specs.Writing.{gives, ListingByRules}
 use Rattle.listing.specs.declared.Record.{Record}

@@ -6,7 +6,7 @@ use Prim.Native.Nat.{ℕ, suc}
 use native.Mathlib.Omega.{arith}
 use lib.ListN.{length, getD, drop}
 use Rattle.rules.specs.Calls as rules
-use Rattle.calls.specs.Policy.{Policy}
+use Rattle.contracts.specs.Policy.{Policy}
 use Rattle.listing.specs.Outcome.{recordIs, recordsAre, listedIs, ListingOutcome}
 use Rattle.listing.specs.declared.Record.{Record}
 use Rattle.listing.specs.declared.Listed.{Listed}

@@ -11,14 +11,14 @@ use borrow.Author.Tests.{ltb-false}
 use Rattle.rules.specs.Calls as rules
 use Rattle.rules.specs.Calls.{Listing}
 use Rattle.rules.specs.Public.{listed}
-use Rattle.parts.specs.Parts as parts
+use Rattle.area_state.specs.Parts as parts
 use Rattle.area.specs.Area.{capacityOf}
 use Rattle.area.specs.Stored.{Stored, stateIn}
 use Rattle.state_check.specs.Check.{stateTest}
 use Rattle.state_check.proofs.State.{state-writes}
-use Rattle.calls.specs.Policy.{policyOf, stateOf, reads}
+use Rattle.contracts.specs.Policy.{policyOf, stateOf, reads}
 use Rattle.rules.specs.declared.Kind.{Kind}
-use Rattle.calls.proofs.Exact.{exact-of}
+use Rattle.contracts.proofs.Exact.{exact-of}
 use Rattle.listing.specs.Order.{past}
 use Rattle.listing.specs.Steps.{orderIn, recordAt, recordsIn, accepted, planOf, Stands, StepIs}
 use Rattle.listing.specs.Outcome.{recordIs, recordsAre, ListingOutcome}

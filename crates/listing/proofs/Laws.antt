@@ -12,14 +12,14 @@ use borrow.Author.Needs.{needs}
 use borrow.Author.Tests.{eq-eqb, ne-eqb, lt-ltb, le-ltb}
 use Rattle.rules.specs.State.{residents}
 use Rattle.rules.specs.Car.{taken}
-use Rattle.parts.specs.Parts as parts
-use Rattle.parts.specs.States.{residentAt}
-use Rattle.parts.proofs.Reading.{state-sound}
+use Rattle.area_state.specs.Parts as parts
+use Rattle.area_state.specs.States.{residentAt}
+use Rattle.area_state.proofs.Reading.{state-sound}
 use Rattle.area.specs.Area.{capacityOf, partsOf}
 use Rattle.area.specs.Stored.{Stored, stateIn}
 use Rattle.store.specs.Store.{IsSlot, slotsAt, NextIs}
 use Rattle.state_check.proofs.State.{state-writes}
-use Rattle.calls.specs.Policy.{policyOf}
+use Rattle.contracts.specs.Policy.{policyOf}
 use Rattle.rules.specs.declared.Kind.{Kind}
 use Rattle.rules.specs.declared.Kind.the-variants as kinds
 use Rattle.opening.specs.Opening.{Holding, Opens}

@@ -19,13 +19,13 @@ use Rattle.rules.proofs.ListLaws.{times-keys-append}
 use Rattle.rules.proofs.Slots.{slotOf}
 use Rattle.rules.proofs.ListingLaws.{car-listing}
 use Rattle.rings.specs.Members.{Mem}
-use Rattle.parts.specs.Parts.{residentOf, stateOf as stateOfParts}
-use Rattle.parts.specs.States.{atSlot, residentAt}
-use Rattle.parts.proofs.HoldsAs.{slotsOf}
-use Rattle.parts.proofs.Reading.{resident-at, slots-read, state-obeys}
+use Rattle.area_state.specs.Parts.{residentOf, stateOf as stateOfParts}
+use Rattle.area_state.specs.States.{atSlot, residentAt}
+use Rattle.area_state.proofs.HoldsAs.{slotsOf}
+use Rattle.area_state.proofs.Reading.{resident-at, slots-read, state-obeys}
 use Rattle.area.specs.Area.{partsOf}
 use Rattle.area.specs.Stored.{Stored, stateIn, plainly, arcOf}
-use Rattle.calls.specs.Policy.{policyOf, stateOf}
+use Rattle.contracts.specs.Policy.{policyOf, stateOf}
 use Rattle.rules.specs.declared.Kind.{Kind}
 use Rattle.rules.specs.declared.Kind.the-variants as kinds
 use Rattle.listing.specs.Order.{risingFrom, order}

@@ -7,11 +7,11 @@ use Prim.Native.Nat.{ℕ}
 use lib.ListN.{length}
 use Rattle.rules.specs.Calls as rules
 use Rattle.rules.specs.Calls.{Ask, Listing, Answer}
-use Rattle.calls.specs.Policy.{Policy}
-use Rattle.calls.specs.Writing.{Exactly}
-use Rattle.calls.proofs.Accepting.{is3}
-use Rattle.calls.proofs.Exact.{Exact}
-use Rattle.calls.proofs.Refusing.{exactly}
+use Rattle.contracts.specs.Policy.{Policy}
+use Rattle.contracts.specs.Writing.{Exactly}
+use Rattle.contracts.proofs.Accepting.{is3}
+use Rattle.contracts.proofs.Exact.{Exact}
+use Rattle.contracts.proofs.Refusing.{exactly}
 use Rattle.listing.specs.Outcome.{listedIs, ListingOutcome}
 use Rattle.listing.specs.declared.Record.{Record}
 use Rattle.listing.specs.declared.Listed.{Listed}

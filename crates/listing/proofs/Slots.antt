@@ -13,8 +13,8 @@ use Rattle.rules.specs.Car.{taken}
 use Rattle.rules.proofs.ListLaws.{by-test}
 use Rattle.rings.specs.Members.{Mem, Below}
 use Rattle.rings.proofs.Members.{mem-append}
-use Rattle.parts.specs.Parts.{stateOf}
-use Rattle.parts.proofs.Slots.{has-slot}
+use Rattle.area_state.specs.Parts.{stateOf}
+use Rattle.area_state.proofs.Slots.{has-slot}
 use Rattle.area.specs.Area.{partsOf}
 use Rattle.area.specs.Stored.{Stored, stateIn}
 use Rattle.store.specs.Store.{IsSlot, slotsAt, NextIs}

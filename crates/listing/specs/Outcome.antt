@@ -7,7 +7,7 @@ use lib.ListN.{replicate}
 use Rattle.rules.specs.Calls as rules
 use Rattle.rules.specs.Calls.{Answer}
 use Rattle.rules.specs.Public.{ListingDone, listed}
-use Rattle.calls.specs.Policy.{Policy, reads}
+use Rattle.contracts.specs.Policy.{Policy, reads}
 use Rattle.listing.specs.declared.Record.{Record}
 use Rattle.listing.specs.declared.Listed.{Listed}
 use Rattle.listing.specs.declared.Listed.the-variants as answer

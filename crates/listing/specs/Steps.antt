@@ -6,11 +6,11 @@ use Prim.Native.Nat.{ℕ, suc, _<_}
 use lib.Dec.{ltb}
 use lib.ListN.{length, getD}
 use Rattle.rules.specs.Car.{Car}
-use Rattle.parts.specs.States.{residentAt}
+use Rattle.area_state.specs.States.{residentAt}
 use Rattle.area.specs.Area.{capacityOf}
 use Rattle.area.specs.Stored.{Stored, stateIn}
 use Rattle.state_check.specs.Check.{stateTest}
-use Rattle.calls.specs.Policy.{policyOf}
+use Rattle.contracts.specs.Policy.{policyOf}
 use Rattle.rules.specs.declared.Kind.{Kind}
 use Rattle.listing.specs.Order.{order, past}
 use Rattle.listing.specs.declared.Record.{Record}

@@ -5,8 +5,8 @@ use lib.ListN.{length}
 use Rattle.rules.specs.Calls as rules
 use Rattle.rules.specs.Calls.{Ask, Listing, Answer, Refused}
 use Rattle.rules.specs.Public.{written}
-use Rattle.calls.specs.Policy.{Policy}
-use Rattle.calls.specs.Writing.{ByRules}
+use Rattle.contracts.specs.Policy.{Policy}
+use Rattle.contracts.specs.Writing.{ByRules}
 use Rattle.listing.specs.Outcome.{recordsAre, listedIs}
 use Rattle.listing.specs.declared.Record.{Record}
 use Rattle.listing.specs.declared.Listed.{Listed}

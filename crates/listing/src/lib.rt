@@ -8,7 +8,7 @@ ghost use lib.Dec.{eqb};
 ghost use lib.ListN.{getD};
 ghost use Rattle.area.specs.Stored.{Stored, stateIn};
 ghost use Rattle.store.specs.Store.{slotsAt};
-ghost use Rattle.calls.specs.Policy.{policyOf};
+ghost use Rattle.contracts.specs.Policy.{policyOf};
 ghost use Rattle.opening.specs.Opening.{Holding};
 ghost use Rattle.listing.specs.Order.{order, past, takenFrom};
 ghost use Rattle.listing.specs.Steps.{Stands, StandsIn, Follows, StepIs, planOf};

@@ -6,7 +6,7 @@ use Prim.Native.Nat.{ℕ, _^_, _<_, _≤_}
 use native.Mathlib.Omega.{arith}
 use lib.ListN.{length, getD}
 use borrow.Author.Needs.{needs}
-use Rattle.parts.specs.Parts as parts
+use Rattle.area_state.specs.Parts as parts
 use Rattle.area.specs.Area.{capacityOf, endAt}
 use Rattle.area.specs.Stored.{stateIn}
 use Rattle.state_check.specs.Check.{stateTest}

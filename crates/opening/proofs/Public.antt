@@ -5,12 +5,12 @@ use Prim.Native.Nat.{ℕ}
 use borrow.Author.Needs.{needs}
 use Rattle.rules.specs.Calls as rules
 use Rattle.rules.specs.Calls.{Call, Question, Answer}
-use Rattle.calls.specs.Policy.{Policy}
-use Rattle.calls.specs.Inner.{Good, Did, Says}
-use Rattle.calls.specs.Outer.{Outcome, Told}
-use Rattle.calls.proofs.Exact.{Exact, arc-exact, car-exact}
-use Rattle.calls.proofs.Reading.{good}
-use Rattle.calls.proofs.Passing.{call, call-refused, told, told-refused, making}
+use Rattle.contracts.specs.Policy.{Policy}
+use Rattle.contracts.specs.Inner.{Good, Did, Says}
+use Rattle.contracts.specs.Outer.{Outcome, Told}
+use Rattle.contracts.proofs.Exact.{Exact, arc-exact, car-exact}
+use Rattle.contracts.proofs.Reading.{good}
+use Rattle.contracts.proofs.Passing.{call, call-refused, told, told-refused, making}
 use Rattle.opening.specs.Opening.{Opens}
 use Rattle.opening.specs.declared.Opened.{Opened}
 use Rattle.opening.specs.declared.Opened.the-variants.{Cache, Refused}

@@ -1,7 +1,7 @@
 // The way from any words to an inner call: the state check, and the capacity of the cache that the words hold. Every
 // public call starts here.
 use rules::Kind;
-ghost use Rattle.calls.specs.Policy.{policyOf};
+ghost use Rattle.contracts.specs.Policy.{policyOf};
 ghost use Rattle.opening.specs.Opening.{Opens};
 
 // The capacity of the cache in an area, or refusal 3.
@@ -14,7 +14,7 @@ pub enum Opened {
 pub fn open(area: &[u64], kind: Kind) -> Opened
     ensures { λ r. ⌜ Opens (policyOf kind .kind) (now (area .entry)) r ⌝ }
 {
-    let number = calls::number(kind);
+    let number = contracts::number(kind);
     if state_check::check(area, number) {
         let c = area[1] as usize;
         return Opened::Cache(c);

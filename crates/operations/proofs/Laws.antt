@@ -13,10 +13,10 @@ use Rattle.answers.specs.declared.Seen.{Seen}
 use Rattle.answers.specs.declared.Gone.{Gone}
 use Rattle.answers.specs.declared.Inserted.{Inserted}
 use Rattle.answers.specs.declared.Reply.the-variants as reply
-use Rattle.calls.specs.Policy.{Policy, policyOf, stateOf}
-use Rattle.calls.specs.Inner.{Good, Did, Says}
+use Rattle.contracts.specs.Policy.{Policy, policyOf, stateOf}
+use Rattle.contracts.specs.Inner.{Good, Did, Says}
 use Rattle.rules.specs.declared.Kind.{Kind}
-use Rattle.calls.proofs.Exact.{exact-of}
+use Rattle.contracts.proofs.Exact.{exact-of}
 
 module _ (P : Policy) (c : ℕ) (w v : List ℕ) (op : Operation) where
   -- ---- the call that was made is the operation's

@@ -9,8 +9,8 @@ use rules::Kind;
 use trace::Operation;
 ghost use Rattle.rules.specs.Batch.{callOf};
 ghost use Rattle.answers.specs.Answers.{replyIs};
-ghost use Rattle.calls.specs.Policy.{policyOf};
-ghost use Rattle.calls.specs.Inner.{Good, Did};
+ghost use Rattle.contracts.specs.Policy.{policyOf};
+ghost use Rattle.contracts.specs.Inner.{Good, Did};
 
 // The operation, by the policy of that kind.
 pub fn operate(a: &mut [u64], c: usize, kind: Kind, op: Operation) -> Reply
@@ -19,23 +19,23 @@ pub fn operate(a: &mut [u64], c: usize, kind: Kind, op: Operation) -> Reply
 {
     match op {
         Operation::Get { page } => {
-            let r = cache::get(a, c, kind, page);
+            let r = inner_calls::get(a, c, kind, page);
             Reply::Got(r)
         }
         Operation::Insert { page, frame } => {
-            let r = cache::insert(a, c, kind, page, frame);
+            let r = inner_calls::insert(a, c, kind, page, frame);
             Reply::Inserted(r)
         }
         Operation::Remove { page } => {
-            let r = cache::remove(a, c, kind, page);
+            let r = inner_calls::remove(a, c, kind, page);
             Reply::Gone(r)
         }
         Operation::Clear => {
-            cache::clear(a, c, kind);
+            inner_calls::clear(a, c, kind);
             Reply::Cleared
         }
         Operation::Peek { page } => {
-            let r = cache::peek(a, c, kind, page);
+            let r = inner_calls::peek(a, c, kind, page);
             Reply::Seen(r)
         }
     }

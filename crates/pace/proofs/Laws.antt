@@ -6,8 +6,8 @@ use lib.ListN.{length, take}
 use lib.Seq.{length-take-le}
 use borrow.Author.Needs.{needs}
 use Rattle.rules.specs.declared.Kind.{Kind}
-use Rattle.calls.specs.Policy.{policyOf}
-use Rattle.calls.specs.Inner.{Good}
+use Rattle.contracts.specs.Policy.{policyOf}
+use Rattle.contracts.specs.Inner.{Good}
 use Rattle.opening.specs.Opening.{Opens}
 use Rattle.opening.specs.declared.Opened.{Opened}
 use Rattle.opening.specs.declared.Opened.the-variants.{Cache}

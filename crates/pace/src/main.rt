@@ -376,8 +376,8 @@ fn run_once(
     back: Ends,
 ) -> Run {
     let kind = job.kind;
-    let header = calls::number(kind);
-    fresh::new(area, header, job.capacity);
+    let header = contracts::number(kind);
+    empty_cache::new(area, header, job.capacity);
     match opening::open(area, kind) {
         Opened::Cache(c) => run_eight(area, c, kind, b1, b2, b3, b4, b5, b6, b7, b8, front, back),
         Opened::Refused => start(),
@@ -426,7 +426,7 @@ fn end_to_run(bytes: &[u8], filled: usize, more: bool) -> usize {
 fn to_front(bytes: &mut [u8], from: usize, to: usize) -> usize {
     if to <= bytes.len() {
         if from <= to {
-            return pieces::keep(bytes, from, to);
+            return input_buffer::keep(bytes, from, to);
         }
     }
     0
@@ -475,8 +475,8 @@ fn run_reading(area: &mut [u64], c: usize, kind: Kind, bytes: &mut [u8]) -> Run
 // The input, on a fresh cache.
 fn run_input(area: &mut [u64], job: Job, bytes: &mut [u8]) -> Run {
     let kind = job.kind;
-    let header = calls::number(kind);
-    fresh::new(area, header, job.capacity);
+    let header = contracts::number(kind);
+    empty_cache::new(area, header, job.capacity);
     match opening::open(area, kind) {
         Opened::Cache(c) => run_reading(area, c, kind, bytes),
         Opened::Refused => start(),

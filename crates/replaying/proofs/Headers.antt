@@ -26,13 +26,13 @@ use Rattle.rules.specs.Batch.{batch}
 use Rattle.rules.specs.Car.{new}
 use Rattle.rules.specs.Program as rules
 use Rattle.rules.specs.Program.{program, textOf, maxReplayed}
-use Rattle.fresh.specs.Fresh.{answerOf, Empty, New}
-use Rattle.fresh.specs.declared.Made as declared
-use Rattle.fresh.specs.declared.Made.the-variants as made
+use Rattle.empty_cache.specs.Fresh.{answerOf, Empty, New}
+use Rattle.empty_cache.specs.declared.Made as declared
+use Rattle.empty_cache.specs.declared.Made.the-variants as made
 use Rattle.rules.specs.declared.Kind.{Kind}
 use Rattle.rules.specs.declared.Kind.the-variants.{Arc, Car}
-use Rattle.calls.specs.Policy.{Policy, policyOf}
-use Rattle.calls.proofs.Exact.{exact-of}
+use Rattle.contracts.specs.Policy.{Policy, policyOf}
+use Rattle.contracts.proofs.Exact.{exact-of}
 use Rattle.replaying.specs.declared.Header.{Header}
 use Rattle.replaying.specs.declared.Header.the-variants.{Cache, Stop}
 use Rattle.replaying.specs.Pending.{toldAfter}

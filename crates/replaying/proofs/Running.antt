@@ -36,8 +36,8 @@ use Rattle.answers.specs.Answers.{replyIs}
 use Rattle.answers.specs.declared.Reply.{Reply}
 use Rattle.lines.specs.Lines.{lineRoom, LineRoom, Put}
 use Rattle.rules.specs.declared.Kind.{Kind}
-use Rattle.calls.specs.Policy.{Policy, policyOf, stateOf}
-use Rattle.calls.specs.Inner.{Good, Did}
+use Rattle.contracts.specs.Policy.{Policy, policyOf, stateOf}
+use Rattle.contracts.specs.Inner.{Good, Did}
 use Rattle.replaying.specs.declared.Replay.the-variants.{Running, Ended}
 use Rattle.replaying.specs.Pending.{toldAfter, pending}
 use Rattle.replaying.specs.Feeding.{needed, Feeds, Wrote}

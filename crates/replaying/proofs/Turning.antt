@@ -8,7 +8,7 @@ use lib.Dec.{ltb}
 use lib.ListN.{length, take, drop, length-drop}
 use lib.Seq.{length-take-le, take-at, drop-at, take-add}
 use borrow.Author.Needs.{needs}
-use Rattle.pieces.specs.Pieces.{Within, moved, Kept}
+use Rattle.input_buffer.specs.Pieces.{Within, moved, Kept}
 use Rattle.replaying.specs.declared.Replay.{Replay}
 use Rattle.replaying.specs.Feeding.{Feeds, Turns}
 

@@ -13,8 +13,8 @@ use Rattle.rules.specs.Program.{maxReplayed}
 use Rattle.rules.specs.Public.{wordsNeeded}
 use Rattle.rules.specs.declared.Kind.{Kind}
 use Rattle.rules.specs.declared.Kind.the-variants.{Arc, Car}
-use Rattle.calls.specs.Policy.{policyOf, stateOf}
-use Rattle.calls.specs.Inner.{Good}
+use Rattle.contracts.specs.Policy.{policyOf, stateOf}
+use Rattle.contracts.specs.Inner.{Good}
 use Rattle.replaying.specs.declared.Header.{Header}
 use Rattle.replaying.specs.declared.Header.the-variants.{Cache, Stop}
 use Rattle.replaying.specs.Pending.{areaWords}

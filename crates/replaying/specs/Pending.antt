@@ -9,8 +9,8 @@ use Rattle.rules.specs.Batch.{Batched, batch}
 use Rattle.rules.specs.Program.{textOf, textsOf, program, maxReplayed}
 use Rattle.rules.specs.Public.{wordsNeeded}
 use Rattle.rules.specs.declared.Kind.{Kind}
-use Rattle.calls.specs.Policy.{policyOf, stateOf}
-use Rattle.calls.specs.Inner.{Good}
+use Rattle.contracts.specs.Policy.{policyOf, stateOf}
+use Rattle.contracts.specs.Inner.{Good}
 use Rattle.replaying.specs.declared.Replay.{Replay}
 use Rattle.replaying.specs.declared.Replay.the-variants.{Start, Running, Ended}
 

@@ -113,8 +113,8 @@ fn make(area: &mut [u64], kind: Kind, c: usize)
     requires { ⌜ Sizes c (now area) ⌝ }
     ensures { λ _. ⌜ Fresh kind c (now (area .entry)) (now (area .exit)) ⌝ }
 {
-    let number = calls::number(kind);
-    fresh::new(area, number, c as u64);
+    let number = contracts::number(kind);
+    empty_cache::new(area, number, c as u64);
 }
 
 // The first bytes of the input.
@@ -299,7 +299,7 @@ pub fn turn(r: Replay, area: &mut [u64], bytes: &mut [u8], n: usize, out: &mut [
     let last = n < bytes.len();
     let fed = feed(r, area, &bytes[..n], last, out);
     let used = fed.used;
-    let kept = pieces::keep(bytes, used, n);
+    let kept = input_buffer::keep(bytes, used, n);
     let replay = fed.replay;
     Turned {
         replay,

@@ -21,7 +21,7 @@ use Rattle.ghosts.specs.Ghosts.{ghostsTest}
 use Rattle.lookup.specs.Buckets.{bucketsOf, placesOf}
 use Rattle.lookup.specs.Part as lookup
 use Rattle.lookup_check.specs.Check.{lookupTest}
-use Rattle.parts.specs.Parts.{Parts}
+use Rattle.area_state.specs.Parts.{Parts}
 use Rattle.area.specs.Part.{part}
 use Rattle.area.specs.Area.{residentsIn, ghostsIn, lookupIn, sideOf, endAt, partsOf, Starts, Fit}
 use Rattle.area.proofs.Laws.{ghosts-part}

@@ -10,9 +10,9 @@ use Rattle.lookup.specs.Buckets.{bucketsOf, placesOf}
 use Rattle.lookup.specs.Lookup.{Exactly}
 use Rattle.lookup.proofs.Counts.{held-count}
 use Rattle.lookup_check.proofs.Exact.{test-exactly, test-complete}
-use Rattle.parts.specs.Parts.{Parts, ghostPlace, DeadIn, Holds}
-use Rattle.parts.proofs.HoldsAs.{slotsOf, spareIn}
-use Rattle.parts.proofs.Making.{HaveRoom}
+use Rattle.area_state.specs.Parts.{Parts, ghostPlace, DeadIn, Holds}
+use Rattle.area_state.proofs.HoldsAs.{slotsOf, spareIn}
+use Rattle.area_state.proofs.Making.{HaveRoom}
 use Rattle.state_check.specs.Check.{deadsTest, liveCount, listsTest, heldTest, deadTest}
 use Rattle.state_check.proofs.Lists.{both, AreLists, lists-sound, lists-complete}
 use Rattle.state_check.proofs.Places.{deads-sound, deads-complete, from-zero, to-zero, every, slot-every, ghost-every, every-count, others-dead, every-held, every-distinct}

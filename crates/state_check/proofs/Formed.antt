@@ -1,4 +1,4 @@
--- The state that parts read as is well formed by ARC's rules. (By CAR's: parts/proofs/Ranging.) In order: words of a
+-- The state that parts read as is well formed by ARC's rules. (By CAR's: area_state/proofs/Ranging.) In order: words of a
 -- part; ARC's view of a state; the lengths of its lists by their counts. Assumes nothing.
 use mathlib.Core.Path.{_≡_, refl, ap}
 use mathlib.Core.List.{List, [], _∷_, map}
@@ -11,10 +11,10 @@ use Rattle.rules.specs.State.{first, second, pages, Sound, Ranged, Fits}
 use Rattle.rules.specs.Arc as arc
 use Rattle.rules.specs.Car.{Car, Resident}
 use Rattle.lookup.specs.Part.{pageOf}
-use Rattle.parts.specs.Parts.{Parts, Holds, residentOf, ghostOf, stateOf}
-use Rattle.parts.proofs.HoldsAs.{slotsOf, liveIn}
-use Rattle.parts.proofs.Reading.{state-obeys}
-use Rattle.parts.proofs.Ranging.{state-ranged}
+use Rattle.area_state.specs.Parts.{Parts, Holds, residentOf, ghostOf, stateOf}
+use Rattle.area_state.proofs.HoldsAs.{slotsOf, liveIn}
+use Rattle.area_state.proofs.Reading.{state-obeys}
+use Rattle.area_state.proofs.Ranging.{state-ranged}
 use Rattle.area.specs.Part.{part}
 use Rattle.area.specs.Area.{lookupIn, partsOf}
 use Rattle.area.specs.Stored.{plainly, arcOf}

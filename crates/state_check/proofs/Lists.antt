@@ -11,8 +11,8 @@ use Rattle.residents.proofs.Tests.{residents-sound, residents-complete}
 use Rattle.ghosts.specs.Ghosts as ghosts
 use Rattle.ghosts.specs.Ghosts.{ghostsTest}
 use Rattle.ghosts.proofs.Tests.{ghosts-sound, ghosts-complete}
-use Rattle.parts.specs.Parts.{Parts, ghostsOf}
-use Rattle.parts.proofs.Making.{HaveRoom}
+use Rattle.area_state.specs.Parts.{Parts, ghostsOf}
+use Rattle.area_state.proofs.Making.{HaveRoom}
 use Rattle.state_check.specs.Check.{listsTest}
 
 -- both of two tests

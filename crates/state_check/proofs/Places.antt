@@ -18,12 +18,12 @@ use Rattle.ghosts.proofs.Laws.{live-or-spare}
 use Rattle.lookup.specs.Lookup.{Dead}
 use Rattle.lookup.specs.Buckets.{placesOf}
 use Rattle.lookup.proofs.Counts.{dead-told, tell-dead}
-use Rattle.parts.specs.Parts.{Parts, ghostsOf, ghostPlace, HeldIn, DeadIn, Holds}
-use Rattle.parts.proofs.Counts.{mem-map, map-mem, distinct-map}
-use Rattle.parts.proofs.Sides.{place-one, place-apart}
-use Rattle.parts.proofs.HoldsAs.{named, slotsOf, liveIn, spareIn}
-use Rattle.parts.proofs.Pages.{live-below, slots-apart, slots-distinct, live-distinct, slot-not-ghost}
-use Rattle.parts.proofs.Reading.{in-both, both-in}
+use Rattle.area_state.specs.Parts.{Parts, ghostsOf, ghostPlace, HeldIn, DeadIn, Holds}
+use Rattle.area_state.proofs.Counts.{mem-map, map-mem, distinct-map}
+use Rattle.area_state.proofs.Sides.{place-one, place-apart}
+use Rattle.area_state.proofs.HoldsAs.{named, slotsOf, liveIn, spareIn}
+use Rattle.area_state.proofs.Pages.{live-below, slots-apart, slots-distinct, live-distinct, slot-not-ghost}
+use Rattle.area_state.proofs.Reading.{in-both, both-in}
 use Rattle.state_check.specs.Check.{deadAt, deadsTest, liveCount}
 use Rattle.state_check.proofs.Lists.{both, AreLists}
 

@@ -1,6 +1,6 @@
 -- THE STATE CHECK IS EXACT: it passes where the words are a writing of a well-formed state of that kind, and only there.
 -- Words are a writing of one state at most, and the kinds are never confused. Over the policy, of what any words read as:
--- crate `calls`, proofs/Reading. Assumes nothing.
+-- crate `contracts`, proofs/Reading. Assumes nothing.
 use mathlib.Core.Path.{_≡_, refl, sym, ap, _∙_}
 use mathlib.Core.Bool.{Bool, true, false, cond, false≢true}
 use mathlib.Core.List.{List}
@@ -12,8 +12,8 @@ use borrow.Author.Tests.{eqb-true, ltb-false, leb-true, eq-eqb, le-ltb, le-leb}
 use Rattle.rules.specs.Arc as arc
 use Rattle.rules.specs.Car as car
 use Rattle.rules.specs.Car.{Car}
-use Rattle.parts.specs.Parts.{Parts, Holds, stateOf}
-use Rattle.parts.proofs.Ranging.{state-well-formed}
+use Rattle.area_state.specs.Parts.{Parts, Holds, stateOf}
+use Rattle.area_state.proofs.Ranging.{state-well-formed}
 use Rattle.area.specs.Area.{kindOf, capacityOf, targetOf, endAt, partsOf}
 use Rattle.area.specs.Stored.{stateIn, arcOf, Writes}
 use Rattle.state_check.specs.Check.{Words, rowCount, liveCount, listsTest, deadTest, sumsTest, partsTest, stateTest}

@@ -15,7 +15,7 @@ use Rattle.ghosts.specs.Ghosts.{ghostsTest}
 use Rattle.lookup.specs.Buckets.{bucketsOf, placesOf}
 use Rattle.lookup.specs.Part.{linksOf, Room}
 use Rattle.lookup_check.specs.Check.{lookupTest}
-use Rattle.parts.specs.Parts.{Parts}
+use Rattle.area_state.specs.Parts.{Parts}
 use Rattle.area.specs.Area.{kindOf, capacityOf, targetOf, endAt, ghostsIn, sideOf, partsOf}
 
 -- words of 64 bits, as every slice of u64 has them

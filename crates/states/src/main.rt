@@ -96,15 +96,15 @@ fn mixed(h: u64, n: u64) -> u64 {
     let low = h % 4294967296;
     let high = h / 4294967296;
     let scaled = low * 4294957665;
-    let sum = telling::plus(scaled, high);
-    telling::plus(sum, n % 4294967296)
+    let sum = test_text::plus(scaled, high);
+    test_text::plus(sum, n % 4294967296)
 }
 
 // A number: its text where the state is told whole, and the digest with it.
 fn tell(s: Sink, n: u64) -> Sink {
     let digest = mixed(s.digest, n);
     if s.whole {
-        telling::field(b" ", n);
+        test_text::field(b" ", n);
     }
     Sink {
         whole: s.whole,
@@ -117,7 +117,7 @@ fn tell_page(s: Sink, page: u64) -> Sink {
     let low = mixed(s.digest, page % 4294967296);
     let digest = mixed(low, page / 4294967296);
     if s.whole {
-        telling::field(b" ", page);
+        test_text::field(b" ", page);
     }
     Sink {
         whole: s.whole,
@@ -295,14 +295,14 @@ fn digest_of(area: &[u64], kind: Kind, steps: u64, whole: bool) -> u64 {
 
 fn put_state(area: &[u64], kind: Kind, mode: u8, steps: u64) {
     if mode == 0 {
-        telling::word(b"state");
+        test_text::word(b"state");
         digest_of(area, kind, steps, true);
-        telling::word(b"\n");
+        test_text::word(b"\n");
         return;
     }
     let digest = digest_of(area, kind, steps, false);
-    telling::number(digest);
-    telling::word(b"\n");
+    test_text::number(digest);
+    test_text::word(b"\n");
 }
 
 // The library's lines ask for a buffer with room.
@@ -315,19 +315,19 @@ fn line() -> [u8; 64]
 fn put_reply(reply: Reply) {
     let mut out = line();
     let end = lines::put_reply(&mut out, 0, reply);
-    telling::flush(&out, end);
+    test_text::flush(&out, end);
 }
 
 fn put_end(n: u64) {
     let mut out = line();
     let end = lines::put_end(&mut out, 0, n);
-    telling::flush(&out, end);
+    test_text::flush(&out, end);
 }
 
 fn put_stop(refusal: u8, offset: u64) {
     let mut out = line();
     let end = lines::put_stop(&mut out, 0, refusal, offset);
-    telling::flush(&out, end);
+    test_text::flush(&out, end);
 }
 
 // ---- the calls
@@ -342,31 +342,31 @@ fn steps_of(inserted: Inserted) -> u64 {
 
 // Each call, with its line.
 fn run_get(area: &mut [u64], kind: Kind, page: u64) -> u64 {
-    let r = public::get(area, kind, page);
+    let r = public_calls::get(area, kind, page);
     put_reply(Reply::Got(r));
     0
 }
 
 fn run_insert(area: &mut [u64], kind: Kind, page: u64, frame: u32) -> u64 {
-    let r = public::insert(area, kind, page, frame);
+    let r = public_calls::insert(area, kind, page, frame);
     put_reply(Reply::Inserted(r));
     steps_of(r)
 }
 
 fn run_remove(area: &mut [u64], kind: Kind, page: u64) -> u64 {
-    let r = public::remove(area, kind, page);
+    let r = public_calls::remove(area, kind, page);
     put_reply(Reply::Gone(r));
     0
 }
 
 fn run_clear(area: &mut [u64], kind: Kind) -> u64 {
-    public::clear(area, kind);
+    public_calls::clear(area, kind);
     put_reply(Reply::Cleared);
     0
 }
 
 fn run_peek(area: &[u64], kind: Kind, page: u64) -> u64 {
-    let r = public::peek(area, kind, page);
+    let r = public_calls::peek(area, kind, page);
     put_reply(Reply::Seen(r));
     0
 }
@@ -390,7 +390,7 @@ fn run_one(area: &mut [u64], kind: Kind, mode: u8, op: Operation) {
 
 // The last line, where a refusal stops the operations. `head` bytes of the case stand before them.
 fn put_refused(head: u64, number: u8, offset: u64) {
-    let stop = telling::plus(head, offset);
+    let stop = test_text::plus(head, offset);
     put_stop(number, stop);
 }
 
@@ -406,7 +406,7 @@ fn run_all(area: &mut [u64], kind: Kind, mode: u8, trace: &[u8], head: u64) {
             Found::Read(op) => {
                 run_one(area, kind, mode, op);
                 cursor = step.cursor;
-                done = telling::plus(done, 1);
+                done = test_text::plus(done, 1);
             }
             Found::End => {
                 put_end(done);
@@ -436,17 +436,17 @@ fn none() -> Counts {
 }
 
 fn put_counts(n: Counts) {
-    telling::field(b"counts ", n.gets);
-    telling::field(b" ", n.get_hits);
-    telling::field(b" ", n.updates);
-    telling::field(b" ", n.new_pages);
+    test_text::field(b"counts ", n.gets);
+    test_text::field(b" ", n.get_hits);
+    test_text::field(b" ", n.updates);
+    test_text::field(b" ", n.new_pages);
     put_others(n.evictions, n.steps, n.removals);
 }
 
 fn put_others(evictions: u64, steps: u64, removals: u64) {
-    telling::field(b" ", evictions);
-    telling::field(b" ", steps);
-    telling::field(b" ", removals);
+    test_text::field(b" ", evictions);
+    test_text::field(b" ", steps);
+    test_text::field(b" ", removals);
 }
 
 // The whole trace again by the library's batch: its counts, and the digest of the state it leaves.
@@ -455,15 +455,15 @@ fn run_batch(area: &mut [u64], kind: Kind, trace: &[u8]) {
     let counts = t.counts;
     put_counts(counts);
     let digest = digest_of(area, kind, 0, false);
-    telling::field(b" ", digest);
-    telling::word(b"\n");
+    test_text::field(b" ", digest);
+    test_text::word(b"\n");
 }
 
 // ---- the listing
 
 fn put_record(r: Record) {
-    telling::field(b" ", r.page);
-    telling::field(b" ", r.frame as u64);
+    test_text::field(b" ", r.page);
+    test_text::field(b" ", r.frame as u64);
 }
 
 fn put_records(records: [Record; 1024], n: usize) {
@@ -492,9 +492,9 @@ fn put_list(area: &[u64], kind: Kind) {
     let answer = all.answer;
     let records = all.records;
     let n = listed(answer);
-    telling::field(b"list ", n as u64);
+    test_text::field(b"list ", n as u64);
     put_records(records, n);
-    telling::word(b"\n");
+    test_text::word(b"\n");
 }
 
 // ---- a case
@@ -510,9 +510,9 @@ fn run_case(
     head: usize,
 ) {
     if head <= input.len() {
-        public::new(area, kind, c);
+        public_calls::new(area, kind, c);
         run_all(area, kind, mode, &input[head..], head as u64);
-        public::new(other, kind, c);
+        public_calls::new(other, kind, c);
         run_batch(other, kind, &input[head..]);
         put_list(area, kind);
     }
@@ -554,7 +554,7 @@ fn run_input(area: &mut [u64], other: &mut [u64], mode: u8, input: &[u8]) {
 
 // The bytes of a case behind its mode and its length; whether another case may follow.
 fn run_body(area: &mut [u64], other: &mut [u64], mode: u8, bytes: &mut [u8], n: usize) -> bool {
-    if telling::read(bytes, n) {
+    if test_text::read(bytes, n) {
         if n <= bytes.len() {
             run_input(area, other, mode, &bytes[..n]);
             return true;
@@ -564,9 +564,9 @@ fn run_body(area: &mut [u64], other: &mut [u64], mode: u8, bytes: &mut [u8], n: 
 }
 
 fn read_case(area: &mut [u64], other: &mut [u64], bytes: &mut [u8]) -> bool {
-    if telling::read(bytes, 3) {
-        let mode = telling::byte_at(bytes, 0);
-        let n = telling::pair_at(bytes, 1);
+    if test_text::read(bytes, 3) {
+        let mode = test_text::byte_at(bytes, 0);
+        let n = test_text::pair_at(bytes, 1);
         return run_body(area, other, mode, bytes, n);
     }
     false

@@ -10,12 +10,12 @@ use Rattle.rules.specs.Car.{Resident}
 use Rattle.cells.specs.Cells.{nextOf, prevOf}
 use Rattle.rings.specs.Members.{Mem}
 use Rattle.residents.specs.Residents.{linksOf}
-use Rattle.parts.specs.Parts.{numberOf, residentOf, stateOf}
-use Rattle.parts.specs.States.{residentAt}
-use Rattle.parts.proofs.HoldsAs.{slotsOf}
-use Rattle.parts.proofs.Reading.{resident-at}
-use Rattle.parts.proofs.Lists.{list-is}
-use Rattle.parts.proofs.Ends.{first-slot, first-list, last-slot, last-list}
+use Rattle.area_state.specs.Parts.{numberOf, residentOf, stateOf}
+use Rattle.area_state.specs.States.{residentAt}
+use Rattle.area_state.proofs.HoldsAs.{slotsOf}
+use Rattle.area_state.proofs.Reading.{resident-at}
+use Rattle.area_state.proofs.Lists.{list-is}
+use Rattle.area_state.proofs.Ends.{first-slot, first-list, last-slot, last-list}
 use Rattle.area.specs.Area.{sideOf, residentsIn, partsOf}
 use Rattle.area.specs.Stored.{stateIn}
 use Rattle.store.specs.Store.{HasSlot, HasSome, FirstIs, LastIs}

@@ -8,12 +8,12 @@ use Rattle.residents.specs.Changes.{topOf, addedFront, addedEnd, CanAdd}
 use Rattle.lookup.specs.Buckets.{bucketsOf, placesOf}
 use Rattle.lookup.specs.Lookup.{findOf, look, none}
 use Rattle.lookup.specs.Changes.{putIn, CanPut}
-use Rattle.parts.specs.Parts.{setResidents, setLookup, stateOf}
-use Rattle.parts.specs.Changes.{enteredLookup, enteredFront, enteredEnd}
-use Rattle.parts.specs.States.{enteredAtFront, enteredAtEnd}
-use Rattle.parts.proofs.HoldsAs.{slotsOf}
-use Rattle.parts.proofs.Entering.{may-add, may-put}
-use Rattle.parts.proofs.Adding.{enteredFront-becomes, enteredEnd-becomes}
+use Rattle.area_state.specs.Parts.{setResidents, setLookup, stateOf}
+use Rattle.area_state.specs.Changes.{enteredLookup, enteredFront, enteredEnd}
+use Rattle.area_state.specs.States.{enteredAtFront, enteredAtEnd}
+use Rattle.area_state.proofs.HoldsAs.{slotsOf}
+use Rattle.area_state.proofs.Entering.{may-add, may-put}
+use Rattle.area_state.proofs.Adding.{enteredFront-becomes, enteredEnd-becomes}
 use Rattle.area.specs.Area.{sideOf, residentsIn, lookupIn, partsOf, Fit, Became, Answered}
 use Rattle.area.specs.Stored.{stateIn, Left}
 use Rattle.area.proofs.Storing.{left}

@@ -12,15 +12,15 @@ use Rattle.ghosts.specs.Ghosts.{recorded}
 use Rattle.lookup.specs.Buckets.{bucketsOf, placesOf}
 use Rattle.lookup.specs.Lookup.{findOf, look, CanFind, none}
 use Rattle.lookup.specs.Changes.{renamed, putIn, CanRename, CanPut}
-use Rattle.parts.specs.Parts.{Parts, ghostsOf, setResidents, setGhosts, setLookup, stateOf}
-use Rattle.parts.specs.Changes.{isFull, clearedFor, evicted, enteredLookup, enteredFront, enteredEnd}
-use Rattle.parts.specs.States.{evictedAt, enteredAtFront, enteredAtEnd}
-use Rattle.parts.proofs.HoldsAs.{slotsOf, Becomes}
-use Rattle.parts.proofs.Slots.{is-resident}
-use Rattle.parts.proofs.Finding.{may-find}
-use Rattle.parts.proofs.Evicting.{may-rename, evicted-becomes}
-use Rattle.parts.proofs.Entering.{may-put}
-use Rattle.parts.proofs.Adding.{enteredFront-becomes, enteredEnd-becomes}
+use Rattle.area_state.specs.Parts.{Parts, ghostsOf, setResidents, setGhosts, setLookup, stateOf}
+use Rattle.area_state.specs.Changes.{isFull, clearedFor, evicted, enteredLookup, enteredFront, enteredEnd}
+use Rattle.area_state.specs.States.{evictedAt, enteredAtFront, enteredAtEnd}
+use Rattle.area_state.proofs.HoldsAs.{slotsOf, Becomes}
+use Rattle.area_state.proofs.Slots.{is-resident}
+use Rattle.area_state.proofs.Finding.{may-find}
+use Rattle.area_state.proofs.Evicting.{may-rename, evicted-becomes}
+use Rattle.area_state.proofs.Entering.{may-put}
+use Rattle.area_state.proofs.Adding.{enteredFront-becomes, enteredEnd-becomes}
 use Rattle.area.specs.Area.{sideOf, residentsIn, lookupIn, partsOf, Fit, Became}
 use Rattle.area.specs.Stored.{stateIn, Left}
 use Rattle.area.proofs.Storing.{left}

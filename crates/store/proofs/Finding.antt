@@ -16,13 +16,13 @@ use Rattle.lookup.specs.Buckets.{bucketsOf, placesOf}
 use Rattle.lookup.specs.Lookup.{Place, at, look, placeOr, bucketIn, CanFind, none as noPlace}
 use Rattle.lookup.proofs.Table.{held-below}
 use Rattle.lookup.proofs.Look.{look-held}
-use Rattle.parts.specs.Parts.{Parts, Holds, ghostPlace, residentOf, stateOf}
-use Rattle.parts.proofs.Reading.{resident-at}
-use Rattle.parts.proofs.Finding.{may-find, found-slot, found-resident, found-cell, ghost-no-resident, found-ghost, absent-no-resident, found-nowhere}
+use Rattle.area_state.specs.Parts.{Parts, Holds, ghostPlace, residentOf, stateOf}
+use Rattle.area_state.proofs.Reading.{resident-at}
+use Rattle.area_state.proofs.Finding.{may-find, found-slot, found-resident, found-cell, ghost-no-resident, found-ghost, absent-no-resident, found-nowhere}
 use Rattle.area.specs.Area.{lookupIn, partsOf, Fit}
 use Rattle.area.specs.Stored.{Stored, stateIn}
 use Rattle.store.specs.Store.{HasGhost, FoundIs}
-use Rattle.store.specs.declared.Found.the-variants.{Resident, Recent, Frequent, Nowhere}
+use Rattle.store.specs.declared.Found.the-variants.{Resident, InB1, InB2, Nowhere}
 
 -- one answer is not another
 howMany : {A : Type 0} → Option A → ℕ
@@ -110,13 +110,13 @@ module _ (c : ℕ) (w : List ℕ) (s : Stored c w) (x : ℕ) where
       unfolding stateIn
       finds-ghost = found-ghost c (partsOf c w) (s .holds) x y (is-at ly) i g lg is
 
-    pub finds-recent : c ≤ y → y < 2 * c → FoundIs c w x (Recent (y - c))
-    finds-recent l h =
+    pub finds-b1 : c ≤ y → y < 2 * c → FoundIs c w x (InB1 (y - c))
+    finds-b1 l h =
         let lg : y - c < c = omega arith in let ly : y < 3 * c = omega arith in let is : y ≡ c + (y - c) = omega arith in
         (finds-cell first (y - c) lg ly is, finds-no-resident first (y - c) lg ly is, finds-ghost first (y - c) lg ly is)
 
-    pub finds-frequent : 2 * c ≤ y → y < 3 * c → FoundIs c w x (Frequent (y - 2 * c))
-    finds-frequent l ly =
+    pub finds-b2 : 2 * c ≤ y → y < 3 * c → FoundIs c w x (InB2 (y - 2 * c))
+    finds-b2 l ly =
         let lg : y - 2 * c < c = omega arith in let is : y ≡ 2 * c + (y - 2 * c) = omega arith in
         (finds-cell second (y - 2 * c) lg ly is, finds-no-resident second (y - 2 * c) lg ly is, finds-ghost second (y - 2 * c) lg ly is)
 

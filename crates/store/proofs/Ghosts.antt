@@ -12,13 +12,13 @@ use Rattle.residents.specs.Residents.{countOf as slotCount, listsOf}
 use Rattle.ghosts.specs.Ghosts.{countOf, linksOf, liveOf, forgotten, CanForget}
 use Rattle.lookup.specs.Buckets.{placesOf}
 use Rattle.lookup.specs.Changes.{taken, CanTake}
-use Rattle.parts.specs.Parts.{ghostsOf, setGhosts, setLookup, ghostPlace, ghostOf, residentOf, numberOf, stateOf}
-use Rattle.parts.specs.Changes.{forgot}
-use Rattle.parts.specs.States.{forgotAt}
-use Rattle.parts.proofs.HoldsAs.{named, slotsOf, liveIn, spareIn}
-use Rattle.parts.proofs.Pages.{live-below}
-use Rattle.parts.proofs.Lists.{list-is, ghosts-are}
-use Rattle.parts.proofs.Forgetting.{may-forget, may-take-ghost, forgot-becomes, oldest-live, forgot-oldest}
+use Rattle.area_state.specs.Parts.{ghostsOf, setGhosts, setLookup, ghostPlace, ghostOf, residentOf, numberOf, stateOf}
+use Rattle.area_state.specs.Changes.{forgot}
+use Rattle.area_state.specs.States.{forgotAt}
+use Rattle.area_state.proofs.HoldsAs.{named, slotsOf, liveIn, spareIn}
+use Rattle.area_state.proofs.Pages.{live-below}
+use Rattle.area_state.proofs.Lists.{list-is, ghosts-are}
+use Rattle.area_state.proofs.Forgetting.{may-forget, may-take-ghost, forgot-becomes, oldest-live, forgot-oldest}
 use Rattle.area.specs.Area.{sideOf, residentsIn, ghostsIn, lookupIn, partsOf, Fit, Became}
 use Rattle.area.specs.Stored.{Stored, stateIn, Left}
 use Rattle.area.proofs.Storing.{left}

@@ -19,12 +19,12 @@ use Rattle.residents.specs.Residents.{linksOf}
 use Rattle.lookup.specs.Buckets.{placesOf}
 use Rattle.lookup.specs.Part as lookup
 use Rattle.lookup.specs.Lookup.{Dead}
-use Rattle.parts.specs.Parts.{numberOf, stateOf}
-use Rattle.parts.proofs.Counts.{times-fresh, times-member}
-use Rattle.parts.proofs.Lists.{list-is}
-use Rattle.parts.proofs.HoldsAs.{named, slotsOf, liveIn, spareIn}
-use Rattle.parts.proofs.Pages.{slots-apart, slots-distinct, slot-somewhere, dead-not-held}
-use Rattle.parts.proofs.Reading.{slots-read, state-slotted}
+use Rattle.area_state.specs.Parts.{numberOf, stateOf}
+use Rattle.area_state.proofs.Counts.{times-fresh, times-member}
+use Rattle.area_state.proofs.Lists.{list-is}
+use Rattle.area_state.proofs.HoldsAs.{named, slotsOf, liveIn, spareIn}
+use Rattle.area_state.proofs.Pages.{slots-apart, slots-distinct, slot-somewhere, dead-not-held}
+use Rattle.area_state.proofs.Reading.{slots-read, state-slotted}
 use Rattle.area.specs.Area.{sideOf, residentsIn, lookupIn, partsOf}
 use Rattle.area.specs.Stored.{Stored, stateIn}
 use Rattle.store.specs.Store.{slotsAt, NextIs}

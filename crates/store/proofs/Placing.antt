@@ -9,12 +9,12 @@ use Rattle.ghosts.specs.Ghosts.{countOf, recordCell, recorded, CanRecord}
 use Rattle.ghosts.proofs.Recording.{record-cell}
 use Rattle.lookup.specs.Buckets.{placesOf}
 use Rattle.lookup.specs.Changes.{taken, CanTake}
-use Rattle.parts.specs.Parts.{Parts, ghostsOf, setGhosts, setLookup, ghostPlace}
-use Rattle.parts.specs.Changes.{recordPlaceOf, isFull}
-use Rattle.parts.proofs.HoldsAs.{liveIn, spareIn}
-use Rattle.parts.proofs.Slots.{has-slot}
-use Rattle.parts.proofs.Cells.{gives}
-use Rattle.parts.proofs.Evicting.{may-record, may-take-oldest}
+use Rattle.area_state.specs.Parts.{Parts, ghostsOf, setGhosts, setLookup, ghostPlace}
+use Rattle.area_state.specs.Changes.{recordPlaceOf, isFull}
+use Rattle.area_state.proofs.HoldsAs.{liveIn, spareIn}
+use Rattle.area_state.proofs.Slots.{has-slot}
+use Rattle.area_state.proofs.Cells.{gives}
+use Rattle.area_state.proofs.Evicting.{may-record, may-take-oldest}
 use Rattle.area.specs.Area.{sideOf, ghostsIn, lookupIn, partsOf, Fit, Became, Answered}
 use Rattle.store.specs.Store.{HasSlot, AnySlot, GivesPlace}
 use Rattle.store.proofs.Steps.{ghosts-in, lookup-after, fits-after, became-as, then-lookup}

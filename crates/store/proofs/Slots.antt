@@ -9,15 +9,15 @@ use Rattle.residents.specs.Changes.{withFrame, withBit, promoted, sentBack, fre
 use Rattle.lookup.specs.Buckets.{placesOf}
 use Rattle.lookup.specs.Part.{pageOf}
 use Rattle.lookup.specs.Changes.{taken, CanTake}
-use Rattle.parts.specs.Parts.{setTarget, setResidents, setLookup, residentOf}
-use Rattle.parts.specs.Changes.{framed, marked, toFront, toEnd, removed}
-use Rattle.parts.specs.States.{residentAt, framedAt, markedAt, aimedAt, frontedAt, endedAt, removedAt}
-use Rattle.parts.proofs.Reading.{resident-at}
-use Rattle.parts.proofs.Sizes.{frame-below}
-use Rattle.parts.proofs.Slots.{is-resident, has-slot}
-use Rattle.parts.proofs.Setting.{setTarget-becomes, framed-becomes, marked-becomes}
-use Rattle.parts.proofs.Moving.{toFront-becomes, toEnd-becomes}
-use Rattle.parts.proofs.Leaving.{may-take-slot, removed-becomes}
+use Rattle.area_state.specs.Parts.{setTarget, setResidents, setLookup, residentOf}
+use Rattle.area_state.specs.Changes.{framed, marked, toFront, toEnd, removed}
+use Rattle.area_state.specs.States.{residentAt, framedAt, markedAt, aimedAt, frontedAt, endedAt, removedAt}
+use Rattle.area_state.proofs.Reading.{resident-at}
+use Rattle.area_state.proofs.Sizes.{frame-below}
+use Rattle.area_state.proofs.Slots.{is-resident, has-slot}
+use Rattle.area_state.proofs.Setting.{setTarget-becomes, framed-becomes, marked-becomes}
+use Rattle.area_state.proofs.Moving.{toFront-becomes, toEnd-becomes}
+use Rattle.area_state.proofs.Leaving.{may-take-slot, removed-becomes}
 use Rattle.area.specs.Area.{residentsIn, lookupIn, partsOf, Fit, Became}
 use Rattle.area.specs.Stored.{Stored, stateIn, Left}
 use Rattle.area.proofs.Storing.{left}

@@ -5,7 +5,7 @@ use mathlib.Core.List.{List}
 use Prim.Native.Nat.{ℕ, zero, suc, _<_}
 use native.Mathlib.Omega.{arith}
 use Rattle.rules.specs.State.{Side, first, second}
-use Rattle.parts.specs.Parts.{Parts, ghostsOf, setLookup, numberOf}
+use Rattle.area_state.specs.Parts.{Parts, ghostsOf, setLookup, numberOf}
 use Rattle.area.specs.Area.{sideOf, residentsIn, ghostsIn, lookupIn, partsOf, Fit, Became}
 use Rattle.area.specs.Stored.{Stored}
 

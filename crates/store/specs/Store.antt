@@ -15,13 +15,13 @@ use Rattle.residents.specs.Residents.{listsOf}
 use Rattle.ghosts.specs.Ghosts.{liveOf}
 use Rattle.ghosts.specs.Ghosts.{recorded}
 use Rattle.lookup.specs.Buckets.{placesOf}
-use Rattle.parts.specs.Parts.{ghostsOf, ghostOf, setGhosts, setLookup}
-use Rattle.parts.specs.Changes.{recordPlaceOf, isFull, clearedFor}
-use Rattle.parts.specs.States.{residentAt, evictedAt}
+use Rattle.area_state.specs.Parts.{ghostsOf, ghostOf, setGhosts, setLookup}
+use Rattle.area_state.specs.Changes.{recordPlaceOf, isFull, clearedFor}
+use Rattle.area_state.specs.States.{residentAt, evictedAt}
 use Rattle.area.specs.Area.{sideOf, partsOf, Became}
 use Rattle.area.specs.Stored.{Stored, stateIn, Left}
 use Rattle.store.specs.declared.Found.{Found}
-use Rattle.store.specs.declared.Found.the-variants.{Resident, Recent, Frequent, Nowhere}
+use Rattle.store.specs.declared.Found.the-variants.{Resident, InB1, InB2, Nowhere}
 use Rattle.store.specs.declared.Out.{Out}
 
 -- slot e holds a resident of list i (0 for T1, 1 for T2)
@@ -49,8 +49,8 @@ pub record HasGhost (c : ℕ) (w : List ℕ) (i : Side) (g x : ℕ) : Type 0 whe
 -- where a page is: what each answer of `find` says of the state
 abbrev pub FoundIs : ℕ → List ℕ → ℕ → Found → Type 0
 FoundIs c w x (Resident e) = IsSlot c w e × (resident x (stateIn c w .lists) ≡ some (residentAt e (stateIn c w)))
-FoundIs c w x (Recent g) = HasGhost c w first g x × (resident x (stateIn c w .lists) ≡ none) × (placeOf x (stateIn c w .lists) ≡ ghost first)
-FoundIs c w x (Frequent g) = HasGhost c w second g x × (resident x (stateIn c w .lists) ≡ none) × (placeOf x (stateIn c w .lists) ≡ ghost second)
+FoundIs c w x (InB1 g) = HasGhost c w first g x × (resident x (stateIn c w .lists) ≡ none) × (placeOf x (stateIn c w .lists) ≡ ghost first)
+FoundIs c w x (InB2 g) = HasGhost c w second g x × (resident x (stateIn c w .lists) ≡ none) × (placeOf x (stateIn c w .lists) ≡ ghost second)
 FoundIs c w x Nowhere = (resident x (stateIn c w .lists) ≡ none) × (placeOf x (stateIn c w .lists) ≡ nowhere)
 
 -- the page and the frame of the resident of slot e

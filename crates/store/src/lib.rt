@@ -1,23 +1,23 @@
 // One area as a store of residents and ghosts: the operations that both policies are made of. Each asks that the area
 // holds a cache of capacity c, and leaves one; what it does to the state that the area reads as is said in the rules'
-// own words (parts/specs/States.antt). No policy is known here, and no link.
+// own words (area_state/specs/States.antt). No policy is known here, and no link.
 ghost use mathlib.Core.Path.{_≡_};
 ghost use Prim.Native.Nat.{_+_, _<_, _≤_};
 ghost use lib.Dec.{eqb, ltb};
 ghost use lib.ListN.{length, getD};
 ghost use Rattle.rules.specs.State.{list, ghosts};
 ghost use Rattle.rules.specs.Car.{taken as slotTaken};
-ghost use Rattle.parts.specs.States.{residentAt, framedAt, markedAt, aimedAt, frontedAt, endedAt, removedAt, evictedAt, forgotAt, enteredAtFront, enteredAtEnd};
-ghost use Rattle.parts.specs.Parts.{ghostPlace};
+ghost use Rattle.area_state.specs.States.{residentAt, framedAt, markedAt, aimedAt, frontedAt, endedAt, removedAt, evictedAt, forgotAt, enteredAtFront, enteredAtEnd};
+ghost use Rattle.area_state.specs.Parts.{ghostPlace};
 ghost use Rattle.area.specs.Area.{sideOf};
 ghost use Rattle.area.specs.Stored.{Stored, stateIn, Left};
 ghost use Rattle.store.specs.Store.{IsSlot, AnySlot, HasGhost, FoundIs, Evicts, CanEnter, HasSome, FirstIs, LastIs, slotsAt, NextIs, HasOldest, droppedAt, Names, GivesPlace, CanExchange};
 
-// Where a page is: a resident by its slot, a ghost of B1 (`Recent`) or of B2 (`Frequent`) by its cell, or in no list.
+// Where a page is: a resident by its slot, a ghost of B1 or of B2 by its cell, or in no list.
 pub enum Found {
     Resident(usize),
-    Recent(usize),
-    Frequent(usize),
+    InB1(usize),
+    InB2(usize),
     Nowhere,
 }
 
@@ -38,11 +38,11 @@ pub fn find(a: &[u64], c: usize, x: u64) -> Found
     }
     let d = 2 * c;
     if y < d {
-        return Found::Recent(y - c);
+        return Found::InB1(y - c);
     }
     let m = 3 * c;
     if y < m {
-        return Found::Frequent(y - d);
+        return Found::InB2(y - d);
     }
     Found::Nowhere
 }

@@ -16,7 +16,7 @@ use Rattle.rules.specs.Car.{Car, car, Clocked, Resident, WellFormed}
 use Rattle.rules.proofs.ListLaws.{eqb-self, one-self}
 use Rattle.rules.proofs.StateLaws.{residents-set, seen-set, seen-ghosts}
 use Rattle.rules.proofs.Slots.{each-once, taken-set}
-use Rattle.parts.specs.States.{residentAt, aimedAt, evictedAt, newResident, enteredAtFront}
+use Rattle.area_state.specs.States.{residentAt, aimedAt, evictedAt, newResident, enteredAtFront}
 use Rattle.writings.proofs.Steps.{Kept, kept-aimed, kept-entered, kept-evicted}
 use Rattle.writings.proofs.Free.{kept-free}
 

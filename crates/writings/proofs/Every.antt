@@ -11,11 +11,11 @@ use Rattle.rules.specs.Car.{Car}
 use Rattle.area.specs.Area.{capacityOf}
 use Rattle.state_check.specs.Check.{stateTest}
 use Rattle.state_check.proofs.State.{writes-read}
-use Rattle.calls.specs.Policy.{Policy, policyOf, stateOf}
+use Rattle.contracts.specs.Policy.{Policy, policyOf, stateOf}
 use Rattle.rules.specs.declared.Kind.{Kind}
 use Rattle.rules.specs.declared.Kind.the-variants as kinds
-use Rattle.calls.proofs.Exact.{Exact, exact-of}
-use Rattle.calls.proofs.Reading.{reads-some, reads-none}
+use Rattle.contracts.proofs.Exact.{Exact, exact-of}
+use Rattle.contracts.proofs.Reading.{reads-some, reads-none}
 use Rattle.writings.specs.Writings.{Written, HasWriting}
 use Rattle.writings.specs.Slotting.{carOf}
 use Rattle.writings.proofs.Words.{word-at}

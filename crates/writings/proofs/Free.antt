@@ -18,8 +18,8 @@ use Rattle.rules.proofs.ListLaws.{one-self, one-other, one-le}
 use Rattle.rules.proofs.Slots.{all-free, each-once}
 use Rattle.rings.specs.Members.{Mem}
 use Rattle.rings.proofs.Members.{same-or-other}
-use Rattle.parts.specs.States.{residentAt, removedAt, newResident, enteredAtFront}
-use Rattle.parts.proofs.Reading.{state-obeys}
+use Rattle.area_state.specs.States.{residentAt, removedAt, newResident, enteredAtFront}
+use Rattle.area_state.proofs.Reading.{state-obeys}
 use Rattle.writings.proofs.Steps.{Kept, kept-new, kept-entered, kept-removed}
 
 -- ---- lists

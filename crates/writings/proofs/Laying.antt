@@ -7,7 +7,7 @@ use native.Mathlib.Omega.{arith}
 use lib.ListN.{length, take, drop}
 use lib.Seq.{take-all, take-at, drop-at, drop-drop}
 use Rattle.rules.specs.Car.{Car}
-use Rattle.parts.specs.Parts.{Parts, stateOf, Holds}
+use Rattle.area_state.specs.Parts.{Parts, stateOf, Holds}
 use Rattle.area.specs.Part.{part}
 use Rattle.area.specs.Area.{residentsIn, ghostsIn, lookupIn, partsOf}
 use Rattle.area.specs.Stored.{stateIn}

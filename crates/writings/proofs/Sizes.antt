@@ -18,14 +18,14 @@ use Rattle.ghosts.specs.Ghosts as ghosts
 use Rattle.lookup.specs.Buckets.{bucketsOf, placesOf}
 use Rattle.lookup.specs.Part.{linksOf}
 use Rattle.lookup.specs.Lookup.{findOf}
-use Rattle.parts.specs.Parts.{Parts, ghostsOf, setTarget, numberOf, Holds}
-use Rattle.parts.specs.Changes.{removed, recordPlaceOf, isFull, clearedFor, evicted, enteredLookup, enteredFront, made}
-use Rattle.parts.proofs.Sides.{number-below}
-use Rattle.parts.proofs.HoldsAs.{named, slotsOf, liveIn, spareIn}
-use Rattle.parts.proofs.Pages.{slot-below}
-use Rattle.parts.proofs.Slots.{list-number}
-use Rattle.parts.proofs.Entering.{may-put, top-below}
-use Rattle.parts.proofs.Evicting.{may-rename}
+use Rattle.area_state.specs.Parts.{Parts, ghostsOf, setTarget, numberOf, Holds}
+use Rattle.area_state.specs.Changes.{removed, recordPlaceOf, isFull, clearedFor, evicted, enteredLookup, enteredFront, made}
+use Rattle.area_state.proofs.Sides.{number-below}
+use Rattle.area_state.proofs.HoldsAs.{named, slotsOf, liveIn, spareIn}
+use Rattle.area_state.proofs.Pages.{slot-below}
+use Rattle.area_state.proofs.Slots.{list-number}
+use Rattle.area_state.proofs.Entering.{may-put, top-below}
+use Rattle.area_state.proofs.Evicting.{may-rename}
 use Rattle.area.specs.Part.{part}
 use Rattle.area.specs.Area.{residentsIn, ghostsIn, lookupIn, partsOf, endAt}
 use Rattle.area.proofs.Laws.{length-residents, length-ghosts, length-lookup}

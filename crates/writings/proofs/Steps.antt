@@ -17,18 +17,18 @@ use Rattle.lookup.specs.Buckets.{bucketsOf, placesOf}
 use Rattle.lookup.specs.Part.{pageOf}
 use Rattle.lookup.specs.Lookup.{look, none}
 use Rattle.lookup.proofs.Look.{look-none}
-use Rattle.parts.specs.Parts.{Parts, setTarget, numberOf, Holds, residentOf, ghostOf, stateOf}
-use Rattle.parts.specs.Changes.{removed, evicted, enteredFront, made}
-use Rattle.parts.specs.States.{aimedAt, removedAt, evictedAt, enteredAtFront}
-use Rattle.parts.proofs.Counts.{times-some}
-use Rattle.parts.proofs.HoldsAs.{named, slotsOf, liveIn, spareIn, Becomes}
-use Rattle.parts.proofs.Pages.{Place, slot, cell, place-of}
-use Rattle.parts.proofs.Reading.{pages-read, slots-read}
-use Rattle.parts.proofs.Setting.{setTarget-becomes}
-use Rattle.parts.proofs.Leaving.{removed-becomes}
-use Rattle.parts.proofs.Evicting.{evicted-becomes}
-use Rattle.parts.proofs.Adding.{enteredFront-becomes}
-use Rattle.parts.proofs.Making.{made-becomes}
+use Rattle.area_state.specs.Parts.{Parts, setTarget, numberOf, Holds, residentOf, ghostOf, stateOf}
+use Rattle.area_state.specs.Changes.{removed, evicted, enteredFront, made}
+use Rattle.area_state.specs.States.{aimedAt, removedAt, evictedAt, enteredAtFront}
+use Rattle.area_state.proofs.Counts.{times-some}
+use Rattle.area_state.proofs.HoldsAs.{named, slotsOf, liveIn, spareIn, Becomes}
+use Rattle.area_state.proofs.Pages.{Place, slot, cell, place-of}
+use Rattle.area_state.proofs.Reading.{pages-read, slots-read}
+use Rattle.area_state.proofs.Setting.{setTarget-becomes}
+use Rattle.area_state.proofs.Leaving.{removed-becomes}
+use Rattle.area_state.proofs.Evicting.{evicted-becomes}
+use Rattle.area_state.proofs.Adding.{enteredFront-becomes}
+use Rattle.area_state.proofs.Making.{made-becomes}
 use Rattle.area.specs.Area.{partsOf, endAt}
 use Rattle.area.proofs.Rooms.{have-room}
 use Rattle.writings.proofs.Words.{zeros}

@@ -3,7 +3,7 @@
 use mathlib.Core.List.{List, _∷_, _++_}
 use Prim.Native.Nat.{ℕ}
 use lib.ListN.{replicate}
-use Rattle.parts.specs.Parts.{Parts}
+use Rattle.area_state.specs.Parts.{Parts}
 
 -- kind, capacity and target; the hint, on which no answer depends, and the words that are kept for later are 0
 unfoldable pub headerOf : ℕ → ℕ → ℕ → List ℕ

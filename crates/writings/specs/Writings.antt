@@ -9,7 +9,7 @@ use Rattle.rules.specs.Lists.{Each}
 use Rattle.rules.specs.Public.{wordsNeeded}
 use Rattle.rules.specs.Car.{Car}
 use Rattle.area.specs.Stored.{Writes}
-use Rattle.calls.specs.Policy.{Policy, reads}
+use Rattle.contracts.specs.Policy.{Policy, reads}
 
 -- a word of 64 bits; n such words
 abbrev pub IsWord : ℕ → Type 0

@@ -46,7 +46,7 @@ use denote.Triple.Walked.{says, Stays, stay-ref, stay-none, stay-none-slice, gav
 use denote.Triple.Walked.{goes-none-slice, goes-gave-slice, Walks, ends-at, walked, walk-meets}
 use denote.Triple.Clauses.{ensured, lasts}
 use denote.Exit.{yes}
-use Rattle.calls.specs.Policy.{policyOf}
+use Rattle.contracts.specs.Policy.{policyOf}
 use Rattle.rules.specs.declared.Kind.{Kind}
 use Rattle.rules.proofs.Kind as K
 use Rattle.rules.proofs.Kind.Laws as K′

@@ -1,5 +1,5 @@
 -- `cases::put_ring` asks for a capacity. The loop's invariant is empty. The measure is the cells that are left. Assumes nothing.
-use Rattle.telling.proofs.Laws.{laws}
+use Rattle.test_text.proofs.Laws.{laws}
 use Rattle.cases.proofs.put_ring.Statement.{statement}
 use Rattle.cases.proofs.put_ring.Tie as tie
 

@@ -1,5 +1,5 @@
 -- `hostile::read_area` asks nothing. Assumes nothing.
-use Rattle.telling.proofs.Laws.{laws}
+use Rattle.test_text.proofs.Laws.{laws}
 use Rattle.hostile.proofs.read_area.Statement.{statement}
 use Rattle.hostile.proofs.read_area.Tie as tie
 

@@ -1,7 +1,7 @@
 -- `hostile::run` asks nothing. The loop's invariant: the area and the buffer keep their lengths. The measure is the turns that are left. Assumes nothing.
 use mathlib.Core.Path.{_≡_}
 use lib.ListN.{length}
-use Rattle.telling.proofs.Laws.{laws}
+use Rattle.test_text.proofs.Laws.{laws}
 use Rattle.hostile.proofs.run.Statement.{statement}
 use Rattle.hostile.proofs.run.Tie as tie
 

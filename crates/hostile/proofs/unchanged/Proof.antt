@@ -1,7 +1,7 @@
 -- `hostile::unchanged` asks nothing. The loop's invariant is empty. The measure is the words that are left. Assumes nothing.
 use Prim.Native.Nat.{_-_}
 use lib.ListN.{length}
-use Rattle.telling.proofs.Laws.{laws}
+use Rattle.test_text.proofs.Laws.{laws}
 use Rattle.hostile.proofs.unchanged.Statement.{statement}
 use Rattle.hostile.proofs.unchanged.Tie as tie
 

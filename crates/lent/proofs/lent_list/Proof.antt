@@ -47,7 +47,7 @@ use denote.Triple.Walked.{says, Stays, stay-none, stay-none-slice, walkOf, goes-
 use denote.Triple.Walked.{walked, walk-meets}
 use denote.Triple.Clauses.{ensured, lasts}
 use denote.Exit.{yes}
-use Rattle.calls.specs.Policy.{policyOf}
+use Rattle.contracts.specs.Policy.{policyOf}
 use Rattle.rules.specs.declared.Kind.{Kind}
 use Rattle.rules.proofs.Kind as K
 use Rattle.rules.proofs.Kind.Laws as K′

@@ -1,6 +1,6 @@
 -- `lent::unused_kept` asks nothing. The loop's invariant is empty. The measure is the words that are left. Assumes nothing.
 use Prim.Native.Nat.{_-_}
-use Rattle.telling.proofs.Laws.{laws}
+use Rattle.test_text.proofs.Laws.{laws}
 use Rattle.lent.proofs.unused_kept.Statement.{statement}
 use Rattle.lent.proofs.unused_kept.Tie as tie
 

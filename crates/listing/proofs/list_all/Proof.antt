@@ -49,7 +49,7 @@ use denote.Triple.Table.{entered, cited}
 use denote.Triple.Walked.{says, Stays, stay-none, stay-none-slice, walkOf, goes-none, goes-none-slice, Walks, ends-at, walked, walk-meets}
 use denote.Triple.Clauses.{ensured, lasts}
 use denote.Exit.{yes}
-use Rattle.calls.specs.Policy.{policyOf}
+use Rattle.contracts.specs.Policy.{policyOf}
 use Rattle.rules.specs.declared.Kind.{Kind}
 use Rattle.rules.proofs.Kind as K
 use Rattle.rules.proofs.Kind.Laws as K′

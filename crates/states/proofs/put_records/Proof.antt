@@ -1,6 +1,6 @@
 -- `states::put_records` asks nothing. The loop's invariant is empty. The measure is the records that are left. Assumes nothing.
 use Prim.Native.Nat.{_-_}
-use Rattle.telling.proofs.Laws.{laws}
+use Rattle.test_text.proofs.Laws.{laws}
 use Rattle.states.proofs.put_records.Statement.{statement}
 use Rattle.states.proofs.put_records.Tie as tie
 

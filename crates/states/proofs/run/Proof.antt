@@ -1,7 +1,7 @@
 -- `states::run` asks nothing. The loop's invariant: areas and buffer keep their lengths. The measure is the turns that are left. Assumes nothing.
 use mathlib.Core.Path.{_≡_}
 use lib.ListN.{length}
-use Rattle.telling.proofs.Laws.{laws}
+use Rattle.test_text.proofs.Laws.{laws}
 use Rattle.states.proofs.run.Statement.{statement}
 use Rattle.states.proofs.run.Tie as tie
 

@@ -1,7 +1,7 @@
 -- `states::run_all` asks nothing. The loop's invariant: the area keeps its length. The measure is the turns that are left. Assumes nothing.
 use mathlib.Core.Path.{_≡_}
 use lib.ListN.{length}
-use Rattle.telling.proofs.Laws.{laws}
+use Rattle.test_text.proofs.Laws.{laws}
 use Rattle.states.proofs.run_all.Statement.{statement}
 use Rattle.states.proofs.run_all.Tie as tie
 

@@ -1,5 +1,5 @@
 -- `states::run_body` asks nothing. Assumes nothing.
-use Rattle.telling.proofs.Laws.{laws}
+use Rattle.test_text.proofs.Laws.{laws}
 use Rattle.states.proofs.run_body.Statement.{statement}
 use Rattle.states.proofs.run_body.Tie as tie
 

@@ -1,5 +1,5 @@
 -- `states::tell_ring` asks for a capacity. The loop's invariant is empty. The measure is the cells that are left. Assumes nothing.
-use Rattle.telling.proofs.Laws.{laws}
+use Rattle.test_text.proofs.Laws.{laws}
 use Rattle.states.proofs.tell_ring.Statement.{statement}
 use Rattle.states.proofs.tell_ring.Tie as tie
 

@@ -1,0 +1,1 @@
+-- The proofs of `area_drawing`. Assumes nothing.

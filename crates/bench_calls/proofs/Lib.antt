@@ -1,0 +1,2 @@
+-- The laws of `bench_calls`. Assumes nothing.
+pub mod Laws

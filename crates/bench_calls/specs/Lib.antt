@@ -1,0 +1,2 @@
+-- The definitions that the contracts of `bench_calls` cite. Assumes nothing.
+pub mod Numbers

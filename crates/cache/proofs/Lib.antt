@@ -1,8 +1,0 @@
--- The laws that answer the needs of `cache`. Assumes nothing.
-pub mod Both
-pub mod Calling
-pub mod Asking
-pub mod Updating
-pub mod Replacing
-pub mod Inserting
-pub mod Laws

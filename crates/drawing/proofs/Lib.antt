@@ -1,1 +1,0 @@
--- The proofs of `drawing`. Assumes nothing.

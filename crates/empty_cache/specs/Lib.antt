@@ -1,0 +1,2 @@
+-- The definitions that the contracts of `empty_cache` cite. Assumes nothing.
+pub mod Fresh

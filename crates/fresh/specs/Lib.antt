@@ -1,2 +1,0 @@
--- The definitions that the contracts of `fresh` cite. Assumes nothing.
-pub mod Fresh

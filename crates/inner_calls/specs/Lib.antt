@@ -1,0 +1,2 @@
+-- The definitions that the contracts of `inner_calls` cite. Assumes nothing.
+pub mod Kinds

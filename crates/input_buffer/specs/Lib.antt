@@ -1,0 +1,2 @@
+-- The definitions that the contracts of `input_buffer` cite. Assumes nothing.
+pub mod Pieces

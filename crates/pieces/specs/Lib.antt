@@ -1,2 +1,0 @@
--- The definitions that the contracts of `pieces` cite. Assumes nothing.
-pub mod Pieces

@@ -1,7 +1,0 @@
--- `public::len` meets its contract: at each need in the order of the code. Assumes nothing.
-use Rattle.public.proofs.Laws.{laws}
-use Rattle.public.proofs.len.Statement.{statement}
-use Rattle.public.proofs.len.Tie as tie
-
-pub len-spec : {M : Type 1} → statement M
-len-spec = tie.close (tie.spec (λ c κs. search laws) (λ c. search laws) (λ c κs. search laws) (λ c. search laws) (λ c. search laws) (λ c. search laws))

@@ -1,7 +1,0 @@
--- `public::new` meets its contract: at each need in the order of the code. Assumes nothing.
-use Rattle.public.proofs.Laws.{laws}
-use Rattle.public.proofs.new.Statement.{statement}
-use Rattle.public.proofs.new.Tie as tie
-
-pub new-spec : {M : Type 1} → statement M
-new-spec = tie.close (tie.spec (λ c κs. search laws) (λ c κs. search laws) (λ c. search laws) (λ c. search laws))

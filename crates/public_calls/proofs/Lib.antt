@@ -1,0 +1,2 @@
+-- The laws that answer the needs of `public_calls`. Assumes nothing.
+pub mod Laws

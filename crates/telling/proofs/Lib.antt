@@ -1,2 +1,0 @@
--- The laws of `telling`. Assumes nothing.
-pub mod Laws

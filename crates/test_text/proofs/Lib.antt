@@ -1,0 +1,2 @@
+-- The laws of `test_text`. Assumes nothing.
+pub mod Laws

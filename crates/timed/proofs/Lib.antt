@@ -1,2 +1,0 @@
--- The laws of `timed`. Assumes nothing.
-pub mod Laws

@@ -1,2 +1,0 @@
--- The definitions that the contracts of `timed` cite. Assumes nothing.
-pub mod Numbers
