@@ -15,62 +15,62 @@ ghost use Rattle.stages.specs.Stages.{Stage, Chooses};
 ghost use Rattle.arc.specs.Insert.{arcIn};
 
 // The ghost lists before a plain miss.
-pub fn trim(a: &mut [u64], c: usize)
-    requires { ⌜ Stored c (now a) ⌝ }
-    ensures { λ _. ⌜ Stage arcPolicy c (now (a .entry)) (now (a .exit)) (trimmed (arcIn c (now (a .entry)))) ⌝ }
+pub fn trim(area: &mut [u64], c: usize)
+    requires { ⌜ Stored c (now area) ⌝ }
+    ensures { λ _. ⌜ Stage arcPolicy c (now (area .entry)) (now (area .exit)) (trimmed (arcIn c (now (area .entry)))) ⌝ }
 {
-    let l1 = l1_len(a, c);
+    let l1 = l1_len(area, c);
     if c <= l1 {
-        evict_lru(a, c, 0);
+        evict_lru(area, c, 0);
         return;
     }
-    let all = total(a, c);
+    let all = total(area, c);
     let d = 2 * c;
     if d <= all {
-        evict_lru(a, c, 1);
+        evict_lru(area, c, 1);
         return;
     }
 }
 
 // The oldest page of a ghost list is dropped, if there is one.
-fn evict_lru(a: &mut [u64], c: usize, i: usize)
-    requires { ⌜ Stored c (now a) × (i < 2) ⌝ }
-    ensures { λ _. ⌜ Stage arcPolicy c (now (a .entry)) (now (a .exit)) (dropOldest (sideOf i) (arcIn c (now (a .entry)))) ⌝ }
+fn evict_lru(area: &mut [u64], c: usize, i: usize)
+    requires { ⌜ Stored c (now area) × (i < 2) ⌝ }
+    ensures { λ _. ⌜ Stage arcPolicy c (now (area .entry)) (now (area .exit)) (dropOldest (sideOf i) (arcIn c (now (area .entry)))) ⌝ }
 {
-    let n = store::recorded(a, c, i);
+    let n = store::recorded(area, c, i);
     if n == 0 {
         return;
     }
-    store::drop_oldest(a, c, i);
+    store::drop_oldest(area, c, i);
 }
 
 // The pages of T1 and B1, and those of all four lists.
-fn l1_len(a: &[u64], c: usize) -> usize
-    requires { ⌜ Stored c (now a) ⌝ }
-    ensures { λ r. ⌜ r ≡ length (arcIn c (now (a .entry)) .T1) + length (arcIn c (now (a .entry)) .B1) ⌝ }
+fn l1_len(area: &[u64], c: usize) -> usize
+    requires { ⌜ Stored c (now area) ⌝ }
+    ensures { λ r. ⌜ r ≡ length (arcIn c (now (area .entry)) .T1) + length (arcIn c (now (area .entry)) .B1) ⌝ }
 {
-    let t1 = store::listed(a, c, 0);
-    let b1 = store::recorded(a, c, 0);
+    let t1 = store::listed(area, c, 0);
+    let b1 = store::recorded(area, c, 0);
     t1 + b1
 }
 
-fn total(a: &[u64], c: usize) -> usize
-    requires { ⌜ Stored c (now a) ⌝ }
-    ensures { λ r. ⌜ r ≡ inAll (arcIn c (now (a .entry))) ⌝ }
+fn total(area: &[u64], c: usize) -> usize
+    requires { ⌜ Stored c (now area) ⌝ }
+    ensures { λ r. ⌜ r ≡ inAll (arcIn c (now (area .entry))) ⌝ }
 {
-    let t = stages::residents(a, c);
-    let b1 = store::recorded(a, c, 0);
-    let b2 = store::recorded(a, c, 1);
+    let t = stages::residents(area, c);
+    let b1 = store::recorded(area, c, 0);
+    let b2 = store::recorded(area, c, 1);
     t + b1 + b2
 }
 
 // The victim: the oldest of T1 or T2. One step, and nothing is changed.
-pub fn oldest(a: &[u64], c: usize, in_b2: bool) -> Victim
-    requires { ⌜ HasResident c (now a) ⌝ }
-    ensures { λ r. ⌜ Chooses arcPolicy replace c (now (a .entry)) (now (a .entry)) «in_b2» r ⌝ }
+pub fn oldest(area: &[u64], c: usize, in_b2: bool) -> Victim
+    requires { ⌜ HasResident c (now area) ⌝ }
+    ensures { λ r. ⌜ Chooses arcPolicy replace c (now (area .entry)) (now (area .entry)) «in_b2» r ⌝ }
 {
-    let list = stages::turn(a, c, in_b2);
-    let slot = store::last(a, c, list);
+    let list = stages::turn(area, c, in_b2);
+    let slot = store::last(area, c, list);
     Victim {
         list,
         slot,

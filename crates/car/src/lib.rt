@@ -8,13 +8,13 @@ ghost use Rattle.stages.specs.Stages.{Chooses};
 ghost use Rattle.car.specs.Replace.{StepIs};
 
 // Steps until one meets the victim. Each step before clears a bit, and so there is an end.
-pub fn sweep(a: &mut [u64], c: usize, in_b2: bool) -> Victim
-    requires { ⌜ HasResident c (now a) ⌝ }
-    ensures { λ r. ⌜ Chooses carPolicy replace c (now (a .entry)) (now (a .exit)) «in_b2» r ⌝ }
+pub fn sweep(area: &mut [u64], c: usize, in_b2: bool) -> Victim
+    requires { ⌜ HasResident c (now area) ⌝ }
+    ensures { λ r. ⌜ Chooses carPolicy replace c (now (area .entry)) (now (area .exit)) «in_b2» r ⌝ }
 {
     let mut steps: u64 = 1;
     loop {
-        let s = step(a, c, in_b2);
+        let s = step(area, c, in_b2);
         match s {
             Stepped::Passed => {
                 steps += 1;
@@ -33,14 +33,14 @@ enum Stepped {
 }
 
 // One step: a referenced page loses its bit and goes to the end of the frequent clock; another is the victim.
-fn step(a: &mut [u64], c: usize, in_b2: bool) -> Stepped
-    requires { ⌜ HasResident c (now a) ⌝ }
-    ensures { λ r. ⌜ StepIs c (now (a .entry)) (now (a .exit)) «in_b2» r ⌝ }
+fn step(area: &mut [u64], c: usize, in_b2: bool) -> Stepped
+    requires { ⌜ HasResident c (now area) ⌝ }
+    ensures { λ r. ⌜ StepIs c (now (area .entry)) (now (area .exit)) «in_b2» r ⌝ }
 {
-    let i = stages::turn(a, c, in_b2);
-    let e = store::first(a, c, i);
-    if store::referenced(a, c, e) {
-        store::to_end(a, c, e);
+    let i = stages::turn(area, c, in_b2);
+    let e = store::first(area, c, i);
+    if store::referenced(area, c, e) {
+        store::to_end(area, c, e);
         return Stepped::Passed;
     }
     Stepped::Meets(i, e)

@@ -13,29 +13,29 @@ ghost use Rattle.contracts.specs.Policy.{policyOf};
 ghost use Rattle.contracts.specs.Inner.{Good, Did};
 
 // The operation, by the policy of that kind.
-pub fn operate(a: &mut [u64], c: usize, kind: Kind, op: Operation) -> Reply
-    requires { ⌜ Good (policyOf kind) c (now a) ⌝ }
-    ensures { λ r. ⌜ Did (policyOf kind) (callOf op) c (now (a .entry)) (now (a .exit)) (replyIs r) ⌝ }
+pub fn operate(area: &mut [u64], c: usize, kind: Kind, op: Operation) -> Reply
+    requires { ⌜ Good (policyOf kind) c (now area) ⌝ }
+    ensures { λ r. ⌜ Did (policyOf kind) (callOf op) c (now (area .entry)) (now (area .exit)) (replyIs r) ⌝ }
 {
     match op {
         Operation::Get { page } => {
-            let r = inner_calls::get(a, c, kind, page);
+            let r = inner_calls::get(area, c, kind, page);
             Reply::Got(r)
         }
         Operation::Insert { page, frame } => {
-            let r = inner_calls::insert(a, c, kind, page, frame);
+            let r = inner_calls::insert(area, c, kind, page, frame);
             Reply::Inserted(r)
         }
         Operation::Remove { page } => {
-            let r = inner_calls::remove(a, c, kind, page);
+            let r = inner_calls::remove(area, c, kind, page);
             Reply::Gone(r)
         }
         Operation::Clear => {
-            inner_calls::clear(a, c, kind);
+            inner_calls::clear(area, c, kind);
             Reply::Cleared
         }
         Operation::Peek { page } => {
-            let r = inner_calls::peek(a, c, kind, page);
+            let r = inner_calls::peek(area, c, kind, page);
             Reply::Seen(r)
         }
     }

@@ -30,11 +30,11 @@ pub struct Victim {
 }
 
 // The slot of the resident of page x.
-pub fn slot_of(a: &[u64], c: usize, x: u64) -> Slot
-    requires { ⌜ Stored c (now a) ⌝ }
-    ensures { λ r. ⌜ SlotIs c (now (a .entry)) x r ⌝ }
+pub fn slot_of(area: &[u64], c: usize, x: u64) -> Slot
+    requires { ⌜ Stored c (now area) ⌝ }
+    ensures { λ r. ⌜ SlotIs c (now (area .entry)) x r ⌝ }
 {
-    let found = store::find(a, c, x);
+    let found = store::find(area, c, x);
     match found {
         store::Found::Resident(e) => Slot::At(e),
         store::Found::InB1(_) => Slot::Nobody,
@@ -44,31 +44,31 @@ pub fn slot_of(a: &[u64], c: usize, x: u64) -> Slot
 }
 
 // How many are resident.
-pub fn residents(a: &[u64], c: usize) -> usize
-    requires { ⌜ Stored c (now a) ⌝ }
-    ensures { λ r. ⌜ r ≡ residents (stateIn c (now (a .entry)) .lists) ⌝ }
+pub fn residents(area: &[u64], c: usize) -> usize
+    requires { ⌜ Stored c (now area) ⌝ }
+    ensures { λ r. ⌜ r ≡ residents (stateIn c (now (area .entry)) .lists) ⌝ }
 {
-    let t1 = store::listed(a, c, 0);
-    let t2 = store::listed(a, c, 1);
+    let t1 = store::listed(area, c, 0);
+    let t2 = store::listed(area, c, 1);
     t1 + t2
 }
 
 // A ghost hit of side i (0 for B1, 1 for B2): the target moves, and the page leaves its ghost list.
-pub fn adapt(a: &mut [u64], c: usize, i: usize, g: usize, x: u64)
-    requires { ⌜ HasGhost c (now a) (sideOf i) g x × (i < 2) ⌝ }
-    ensures { λ _. ⌜ Left c (now (a .entry)) (now (a .exit)) (hitAt (sideOf i) x (stateIn c (now (a .entry)))) ⌝ }
+pub fn adapt(area: &mut [u64], c: usize, i: usize, g: usize, x: u64)
+    requires { ⌜ HasGhost c (now area) (sideOf i) g x × (i < 2) ⌝ }
+    ensures { λ _. ⌜ Left c (now (area .entry)) (now (area .exit)) (hitAt (sideOf i) x (stateIn c (now (area .entry)))) ⌝ }
 {
-    let t = aim(a, c, i);
-    store::forget(a, c, i, g, x);
-    store::set_target(a, c, t);
+    let t = aim(area, c, i);
+    store::forget(area, c, i, g, x);
+    store::set_target(area, c, t);
 }
 
 // The target after it: one more, at most c, for B1; one less, at least 0, for B2.
-fn aim(a: &[u64], c: usize, i: usize) -> u64
-    requires { ⌜ Stored c (now a) × (i < 2) ⌝ }
-    ensures { λ r. ⌜ AimIs c (now (a .entry)) i r ⌝ }
+fn aim(area: &[u64], c: usize, i: usize) -> u64
+    requires { ⌜ Stored c (now area) × (i < 2) ⌝ }
+    ensures { λ r. ⌜ AimIs c (now (area .entry)) i r ⌝ }
 {
-    let t = area::target(a);
+    let t = area::target(area);
     let most = c as u64;
     if i == 0 {
         if t < most {
@@ -83,16 +83,16 @@ fn aim(a: &[u64], c: usize, i: usize) -> u64
 }
 
 // The list to replace from: 0 for T1, 1 for T2.
-pub fn turn(a: &[u64], c: usize, in_b2: bool) -> usize
-    requires { ⌜ Stored c (now a) ⌝ }
-    ensures { λ r. ⌜ TurnIs c (now (a .entry)) «in_b2» r ⌝ }
+pub fn turn(area: &[u64], c: usize, in_b2: bool) -> usize
+    requires { ⌜ Stored c (now area) ⌝ }
+    ensures { λ r. ⌜ TurnIs c (now (area .entry)) «in_b2» r ⌝ }
 {
-    let t1 = store::listed(a, c, 0);
-    let p = area::target(a) as usize;
+    let t1 = store::listed(area, c, 0);
+    let p = area::target(area) as usize;
     if prefers_t1(t1, p, in_b2) {
         return 0;
     }
-    let t2 = store::listed(a, c, 1);
+    let t2 = store::listed(area, c, 1);
     if t2 == 0 {
         return 0;
     }

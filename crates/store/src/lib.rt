@@ -28,11 +28,11 @@ pub struct Out {
 }
 
 // Where the page x is.
-pub fn find(a: &[u64], c: usize, x: u64) -> Found
-    requires { ⌜ Stored c (now a) ⌝ }
-    ensures { λ r. ⌜ FoundIs c (now (a .entry)) x r ⌝ }
+pub fn find(area: &[u64], c: usize, x: u64) -> Found
+    requires { ⌜ Stored c (now area) ⌝ }
+    ensures { λ r. ⌜ FoundIs c (now (area .entry)) x r ⌝ }
 {
-    let y = area::lookup_part::place_of(a, c, x);
+    let y = area::lookup_part::place_of(area, c, x);
     if y < c {
         return Found::Resident(y);
     }
@@ -48,79 +48,79 @@ pub fn find(a: &[u64], c: usize, x: u64) -> Found
 }
 
 // The lengths of T1 (i = 0) and T2 (i = 1), and of the ghost list of a side.
-pub fn listed(a: &[u64], c: usize, i: usize) -> usize
-    requires { ⌜ Stored c (now a) × (i < 2) ⌝ }
-    ensures { λ r. ⌜ r ≡ length (list (sideOf i) (stateIn c (now (a .entry)) .lists)) ⌝ }
+pub fn listed(area: &[u64], c: usize, i: usize) -> usize
+    requires { ⌜ Stored c (now area) × (i < 2) ⌝ }
+    ensures { λ r. ⌜ r ≡ length (list (sideOf i) (stateIn c (now (area .entry)) .lists)) ⌝ }
 {
-    area::resident_part::count(a, c, i)
+    area::resident_part::count(area, c, i)
 }
 
-pub fn recorded(a: &[u64], c: usize, i: usize) -> usize
-    requires { ⌜ Stored c (now a) × (i < 2) ⌝ }
-    ensures { λ r. ⌜ r ≡ length (ghosts (sideOf i) (stateIn c (now (a .entry)) .lists)) ⌝ }
+pub fn recorded(area: &[u64], c: usize, i: usize) -> usize
+    requires { ⌜ Stored c (now area) × (i < 2) ⌝ }
+    ensures { λ r. ⌜ r ≡ length (ghosts (sideOf i) (stateIn c (now (area .entry)) .lists)) ⌝ }
 {
-    area::ghost_parts::count(a, c, i)
+    area::ghost_parts::count(area, c, i)
 }
 
 // The frame, the bit and the page of the resident of slot e.
-pub fn frame(a: &[u64], c: usize, e: usize) -> u32
-    requires { ⌜ IsSlot c (now a) e ⌝ }
-    ensures { λ r. ⌜ r ≡ residentAt e (stateIn c (now (a .entry))) .frame ⌝ }
+pub fn frame(area: &[u64], c: usize, e: usize) -> u32
+    requires { ⌜ IsSlot c (now area) e ⌝ }
+    ensures { λ r. ⌜ r ≡ residentAt e (stateIn c (now (area .entry))) .frame ⌝ }
 {
-    area::resident_part::frame(a, c, e) as u32
+    area::resident_part::frame(area, c, e) as u32
 }
 
-pub fn referenced(a: &[u64], c: usize, e: usize) -> bool
-    requires { ⌜ IsSlot c (now a) e ⌝ }
-    ensures { λ r. ⌜ r ≡ residentAt e (stateIn c (now (a .entry))) .more .bit ⌝ }
+pub fn referenced(area: &[u64], c: usize, e: usize) -> bool
+    requires { ⌜ IsSlot c (now area) e ⌝ }
+    ensures { λ r. ⌜ r ≡ residentAt e (stateIn c (now (area .entry))) .more .bit ⌝ }
 {
-    area::resident_part::bit(a, c, e) == 1
+    area::resident_part::bit(area, c, e) == 1
 }
 
-pub fn page(a: &[u64], c: usize, e: usize) -> u64
-    requires { ⌜ IsSlot c (now a) e ⌝ }
-    ensures { λ r. ⌜ r ≡ residentAt e (stateIn c (now (a .entry))) .page ⌝ }
+pub fn page(area: &[u64], c: usize, e: usize) -> u64
+    requires { ⌜ IsSlot c (now area) e ⌝ }
+    ensures { λ r. ⌜ r ≡ residentAt e (stateIn c (now (area .entry))) .page ⌝ }
 {
-    area::lookup_part::page(a, c, e)
+    area::lookup_part::page(area, c, e)
 }
 
 // The first slot of T1 or T2, and the last, where the list has one.
-pub fn first(a: &[u64], c: usize, i: usize) -> usize
-    requires { ⌜ HasSome c (now a) i ⌝ }
-    ensures { λ r. ⌜ FirstIs c (now (a .entry)) i r ⌝ }
+pub fn first(area: &[u64], c: usize, i: usize) -> usize
+    requires { ⌜ HasSome c (now area) i ⌝ }
+    ensures { λ r. ⌜ FirstIs c (now (area .entry)) i r ⌝ }
 {
-    area::resident_part::first(a, c, i)
+    area::resident_part::first(area, c, i)
 }
 
-pub fn last(a: &[u64], c: usize, i: usize) -> usize
-    requires { ⌜ HasSome c (now a) i ⌝ }
-    ensures { λ r. ⌜ LastIs c (now (a .entry)) i r ⌝ }
+pub fn last(area: &[u64], c: usize, i: usize) -> usize
+    requires { ⌜ HasSome c (now area) i ⌝ }
+    ensures { λ r. ⌜ LastIs c (now (area .entry)) i r ⌝ }
 {
-    area::resident_part::last(a, c, i)
+    area::resident_part::last(area, c, i)
 }
 
 // The slots of a list one after the other: the first, and the one after e; past the last of list i comes the number c +
 // i, which is no slot.
-pub fn start(a: &[u64], c: usize, i: usize) -> usize
-    requires { ⌜ Stored c (now a) × (i < 2) ⌝ }
-    ensures { λ r. ⌜ r ≡ getD (slotsAt i c (now (a .entry))) 0 (c + i) ⌝ }
+pub fn start(area: &[u64], c: usize, i: usize) -> usize
+    requires { ⌜ Stored c (now area) × (i < 2) ⌝ }
+    ensures { λ r. ⌜ r ≡ getD (slotsAt i c (now (area .entry))) 0 (c + i) ⌝ }
 {
-    area::resident_part::first(a, c, i)
+    area::resident_part::first(area, c, i)
 }
 
-pub fn next(a: &[u64], c: usize, e: usize) -> usize
-    requires { ⌜ IsSlot c (now a) e ⌝ }
-    ensures { λ r. ⌜ NextIs c (now (a .entry)) e r ⌝ }
+pub fn next(area: &[u64], c: usize, e: usize) -> usize
+    requires { ⌜ IsSlot c (now area) e ⌝ }
+    ensures { λ r. ⌜ NextIs c (now (area .entry)) e r ⌝ }
 {
-    area::resident_part::next(a, c, e)
+    area::resident_part::next(area, c, e)
 }
 
 // Whether slot e holds a resident.
-pub fn taken(a: &[u64], c: usize, e: usize) -> bool
-    requires { ⌜ Stored c (now a) × (e < c) ⌝ }
-    ensures { λ r. ⌜ r ≡ ltb 0 (slotTaken e (stateIn c (now (a .entry)) .lists)) ⌝ }
+pub fn taken(area: &[u64], c: usize, e: usize) -> bool
+    requires { ⌜ Stored c (now area) × (e < c) ⌝ }
+    ensures { λ r. ⌜ r ≡ ltb 0 (slotTaken e (stateIn c (now (area .entry)) .lists)) ⌝ }
 {
-    if area::lookup_part::dead(a, c, e) {
+    if area::lookup_part::dead(area, c, e) {
         false
     } else {
         true
@@ -128,52 +128,52 @@ pub fn taken(a: &[u64], c: usize, e: usize) -> bool
 }
 
 // The target is t.
-pub fn set_target(a: &mut [u64], c: usize, t: u64)
-    requires { ⌜ Stored c (now a) × (t ≤ c) ⌝ }
-    ensures { λ _. ⌜ Left c (now (a .entry)) (now (a .exit)) (aimedAt t (stateIn c (now (a .entry)))) ⌝ }
+pub fn set_target(area: &mut [u64], c: usize, t: u64)
+    requires { ⌜ Stored c (now area) × (t ≤ c) ⌝ }
+    ensures { λ _. ⌜ Left c (now (area .entry)) (now (area .exit)) (aimedAt t (stateIn c (now (area .entry)))) ⌝ }
 {
-    area::set_target(a, c, t);
+    area::set_target(area, c, t);
 }
 
 // The resident of slot e gets the frame f.
-pub fn set_frame(a: &mut [u64], c: usize, e: usize, f: u32)
-    requires { ⌜ IsSlot c (now a) e ⌝ }
-    ensures { λ _. ⌜ Left c (now (a .entry)) (now (a .exit)) (framedAt e f (stateIn c (now (a .entry)))) ⌝ }
+pub fn set_frame(area: &mut [u64], c: usize, e: usize, f: u32)
+    requires { ⌜ IsSlot c (now area) e ⌝ }
+    ensures { λ _. ⌜ Left c (now (area .entry)) (now (area .exit)) (framedAt e f (stateIn c (now (area .entry)))) ⌝ }
 {
-    area::resident_part::set_frame(a, c, e, f as u64);
+    area::resident_part::set_frame(area, c, e, f as u64);
 }
 
 // Its reference bit is set to b.
-pub fn set_bit(a: &mut [u64], c: usize, e: usize, b: u64)
-    requires { ⌜ IsSlot c (now a) e × (b < 2) ⌝ }
-    ensures { λ _. ⌜ Left c (now (a .entry)) (now (a .exit)) (markedAt e (eqb b 1) (stateIn c (now (a .entry)))) ⌝ }
+pub fn set_bit(area: &mut [u64], c: usize, e: usize, b: u64)
+    requires { ⌜ IsSlot c (now area) e × (b < 2) ⌝ }
+    ensures { λ _. ⌜ Left c (now (area .entry)) (now (area .exit)) (markedAt e (eqb b 1) (stateIn c (now (area .entry)))) ⌝ }
 {
-    area::resident_part::set_bit(a, c, e, b);
+    area::resident_part::set_bit(area, c, e, b);
 }
 
 // It comes to the front of T2.
-pub fn to_front(a: &mut [u64], c: usize, e: usize)
-    requires { ⌜ IsSlot c (now a) e ⌝ }
-    ensures { λ _. ⌜ Left c (now (a .entry)) (now (a .exit)) (frontedAt e (stateIn c (now (a .entry)))) ⌝ }
+pub fn to_front(area: &mut [u64], c: usize, e: usize)
+    requires { ⌜ IsSlot c (now area) e ⌝ }
+    ensures { λ _. ⌜ Left c (now (area .entry)) (now (area .exit)) (frontedAt e (stateIn c (now (area .entry)))) ⌝ }
 {
-    area::resident_part::promote(a, c, e);
+    area::resident_part::promote(area, c, e);
 }
 
 // It goes to the end of T2, its bit cleared.
-pub fn to_end(a: &mut [u64], c: usize, e: usize)
-    requires { ⌜ IsSlot c (now a) e ⌝ }
-    ensures { λ _. ⌜ Left c (now (a .entry)) (now (a .exit)) (endedAt e (stateIn c (now (a .entry)))) ⌝ }
+pub fn to_end(area: &mut [u64], c: usize, e: usize)
+    requires { ⌜ IsSlot c (now area) e ⌝ }
+    ensures { λ _. ⌜ Left c (now (area .entry)) (now (area .exit)) (endedAt e (stateIn c (now (area .entry)))) ⌝ }
 {
-    area::resident_part::send_back(a, c, e);
+    area::resident_part::send_back(area, c, e);
 }
 
 // It leaves, and its slot is the top free one. Ghost lists are unchanged.
-pub fn remove(a: &mut [u64], c: usize, e: usize)
-    requires { ⌜ IsSlot c (now a) e ⌝ }
-    ensures { λ _. ⌜ Left c (now (a .entry)) (now (a .exit)) (removedAt e (stateIn c (now (a .entry)))) ⌝ }
+pub fn remove(area: &mut [u64], c: usize, e: usize)
+    requires { ⌜ IsSlot c (now area) e ⌝ }
+    ensures { λ _. ⌜ Left c (now (area .entry)) (now (area .exit)) (removedAt e (stateIn c (now (area .entry)))) ⌝ }
 {
-    area::resident_part::free(a, c, e);
-    area::lookup_part::take(a, c, e);
+    area::resident_part::free(area, c, e);
+    area::lookup_part::take(area, c, e);
 }
 
 // The place in the lookup of cell g of a side's ghost list.
@@ -188,66 +188,66 @@ pub fn ghost_place(c: usize, i: usize, g: usize) -> usize
 }
 
 // The page of cell g of a side's ghost list leaves it.
-pub fn forget(a: &mut [u64], c: usize, i: usize, g: usize, x: u64)
-    requires { ⌜ HasGhost c (now a) (sideOf i) g x × (i < 2) ⌝ }
-    ensures { λ _. ⌜ Left c (now (a .entry)) (now (a .exit)) (forgotAt (sideOf i) x (stateIn c (now (a .entry)))) ⌝ }
+pub fn forget(area: &mut [u64], c: usize, i: usize, g: usize, x: u64)
+    requires { ⌜ HasGhost c (now area) (sideOf i) g x × (i < 2) ⌝ }
+    ensures { λ _. ⌜ Left c (now (area .entry)) (now (area .exit)) (forgotAt (sideOf i) x (stateIn c (now (area .entry)))) ⌝ }
 {
-    area::ghost_parts::forget(a, c, i, g);
+    area::ghost_parts::forget(area, c, i, g);
     let y = ghost_place(c, i, g);
-    area::lookup_part::take(a, c, y);
+    area::lookup_part::take(area, c, y);
 }
 
 // The oldest page of a side's ghost list leaves it.
-pub fn drop_oldest(a: &mut [u64], c: usize, i: usize)
-    requires { ⌜ HasOldest c (now a) i ⌝ }
-    ensures { λ _. ⌜ Left c (now (a .entry)) (now (a .exit)) (droppedAt (sideOf i) (stateIn c (now (a .entry)))) ⌝ }
+pub fn drop_oldest(area: &mut [u64], c: usize, i: usize)
+    requires { ⌜ HasOldest c (now area) i ⌝ }
+    ensures { λ _. ⌜ Left c (now (area .entry)) (now (area .exit)) (droppedAt (sideOf i) (stateIn c (now (area .entry)))) ⌝ }
 {
-    let g = area::ghost_parts::oldest(a, c, i);
-    area::ghost_parts::forget(a, c, i, g);
+    let g = area::ghost_parts::oldest(area, c, i);
+    area::ghost_parts::forget(area, c, i, g);
     let y = ghost_place(c, i, g);
-    area::lookup_part::take(a, c, y);
+    area::lookup_part::take(area, c, y);
 }
 
 // A new resident of page x, in the top free slot: at the front, or at the end, of T1 (j = 0) or T2 (j = 1).
-pub fn enter_front(a: &mut [u64], c: usize, j: usize, x: u64, f: u32, b: u64)
-    requires { ⌜ CanEnter c (now a) x b × (j < 2) ⌝ }
-    ensures { λ _. ⌜ Left c (now (a .entry)) (now (a .exit)) (enteredAtFront (sideOf j) x f (eqb b 1) (stateIn c (now (a .entry)))) ⌝ }
+pub fn enter_front(area: &mut [u64], c: usize, j: usize, x: u64, f: u32, b: u64)
+    requires { ⌜ CanEnter c (now area) x b × (j < 2) ⌝ }
+    ensures { λ _. ⌜ Left c (now (area .entry)) (now (area .exit)) (enteredAtFront (sideOf j) x f (eqb b 1) (stateIn c (now (area .entry)))) ⌝ }
 {
-    let place = area::lookup_part::find(a, c, x);
-    let e = area::resident_part::add_front(a, c, j, f as u64, b);
-    area::lookup_part::put(a, c, place, e, x);
+    let place = area::lookup_part::find(area, c, x);
+    let e = area::resident_part::add_front(area, c, j, f as u64, b);
+    area::lookup_part::put(area, c, place, e, x);
 }
 
-pub fn enter_end(a: &mut [u64], c: usize, j: usize, x: u64, f: u32, b: u64)
-    requires { ⌜ CanEnter c (now a) x b × (j < 2) ⌝ }
-    ensures { λ _. ⌜ Left c (now (a .entry)) (now (a .exit)) (enteredAtEnd (sideOf j) x f (eqb b 1) (stateIn c (now (a .entry)))) ⌝ }
+pub fn enter_end(area: &mut [u64], c: usize, j: usize, x: u64, f: u32, b: u64)
+    requires { ⌜ CanEnter c (now area) x b × (j < 2) ⌝ }
+    ensures { λ _. ⌜ Left c (now (area .entry)) (now (area .exit)) (enteredAtEnd (sideOf j) x f (eqb b 1) (stateIn c (now (area .entry)))) ⌝ }
 {
-    let place = area::lookup_part::find(a, c, x);
-    let e = area::resident_part::add_end(a, c, j, f as u64, b);
-    area::lookup_part::put(a, c, place, e, x);
+    let place = area::lookup_part::find(area, c, x);
+    let e = area::resident_part::add_end(area, c, j, f as u64, b);
+    area::lookup_part::put(area, c, place, e, x);
 }
 
 // The resident of slot e, as one that is put out.
-fn name(a: &[u64], c: usize, e: usize) -> Out
-    requires { ⌜ IsSlot c (now a) e ⌝ }
-    ensures { λ r. ⌜ Names c (now (a .entry)) e r ⌝ }
+fn name(area: &[u64], c: usize, e: usize) -> Out
+    requires { ⌜ IsSlot c (now area) e ⌝ }
+    ensures { λ r. ⌜ Names c (now (area .entry)) e r ⌝ }
 {
-    let page = area::lookup_part::page(a, c, e);
-    let frame = area::resident_part::frame(a, c, e) as u32;
+    let page = area::lookup_part::page(area, c, e);
+    let frame = area::resident_part::frame(area, c, e) as u32;
     Out { page, frame }
 }
 
 // The ghost list of side i gives a cell for a page that is to be recorded. The answer is the cell's place. Where the
 // list was full it is that of its oldest page, which leaves the lookup.
-fn make_place(a: &mut [u64], c: usize, i: usize) -> usize
-    requires { ⌜ AnySlot c (now a) i ⌝ }
-    ensures { λ r. ⌜ GivesPlace c (now (a .entry)) (now (a .exit)) i r ⌝ }
+fn make_place(area: &mut [u64], c: usize, i: usize) -> usize
+    requires { ⌜ AnySlot c (now area) i ⌝ }
+    ensures { λ r. ⌜ GivesPlace c (now (area .entry)) (now (area .exit)) i r ⌝ }
 {
-    let n = area::ghost_parts::count(a, c, i);
-    let g = area::ghost_parts::record(a, c, i);
+    let n = area::ghost_parts::count(area, c, i);
+    let g = area::ghost_parts::record(area, c, i);
     let y = ghost_place(c, i, g);
     if n == c {
-        area::lookup_part::take(a, c, y);
+        area::lookup_part::take(area, c, y);
         return y;
     }
     y
@@ -260,7 +260,7 @@ fn make_place(a: &mut [u64], c: usize, i: usize) -> usize
 // in residents), without the way of the slot through the free ring: eight stores and two counts. Worth 5 to 17 % of a
 // batch that evicts (D63).
 pub fn exchange_front(
-    a: &mut [u64],
+    area: &mut [u64],
     c: usize,
     i: usize,
     e: usize,
@@ -269,20 +269,20 @@ pub fn exchange_front(
     f: u32,
     b: u64,
 ) -> Out
-    requires { ⌜ CanExchange c (now a) i e j x b ⌝ }
-    ensures { λ r. ⌜ Evicts c (now (a .entry)) (now (a .exit)) e r (enteredAtFront (sideOf j) x f (eqb b 1) (evictedAt (sideOf i) e (stateIn c (now (a .entry))))) ⌝ }
+    requires { ⌜ CanExchange c (now area) i e j x b ⌝ }
+    ensures { λ r. ⌜ Evicts c (now (area .entry)) (now (area .exit)) e r (enteredAtFront (sideOf j) x f (eqb b 1) (evictedAt (sideOf i) e (stateIn c (now (area .entry))))) ⌝ }
 {
-    let out = name(a, c, e);
-    let y = make_place(a, c, i);
-    area::lookup_part::rename(a, c, e, y);
-    let place = area::lookup_part::find(a, c, x);
-    area::resident_part::exchange_front(a, c, e, j, f as u64, b);
-    area::lookup_part::put(a, c, place, e, x);
+    let out = name(area, c, e);
+    let y = make_place(area, c, i);
+    area::lookup_part::rename(area, c, e, y);
+    let place = area::lookup_part::find(area, c, x);
+    area::resident_part::exchange_front(area, c, e, j, f as u64, b);
+    area::lookup_part::put(area, c, place, e, x);
     out
 }
 
 pub fn exchange_end(
-    a: &mut [u64],
+    area: &mut [u64],
     c: usize,
     i: usize,
     e: usize,
@@ -291,14 +291,14 @@ pub fn exchange_end(
     f: u32,
     b: u64,
 ) -> Out
-    requires { ⌜ CanExchange c (now a) i e j x b ⌝ }
-    ensures { λ r. ⌜ Evicts c (now (a .entry)) (now (a .exit)) e r (enteredAtEnd (sideOf j) x f (eqb b 1) (evictedAt (sideOf i) e (stateIn c (now (a .entry))))) ⌝ }
+    requires { ⌜ CanExchange c (now area) i e j x b ⌝ }
+    ensures { λ r. ⌜ Evicts c (now (area .entry)) (now (area .exit)) e r (enteredAtEnd (sideOf j) x f (eqb b 1) (evictedAt (sideOf i) e (stateIn c (now (area .entry))))) ⌝ }
 {
-    let out = name(a, c, e);
-    let z = make_place(a, c, i);
-    area::lookup_part::rename(a, c, e, z);
-    let place = area::lookup_part::find(a, c, x);
-    area::resident_part::exchange_end(a, c, e, j, f as u64, b);
-    area::lookup_part::put(a, c, place, e, x);
+    let out = name(area, c, e);
+    let z = make_place(area, c, i);
+    area::lookup_part::rename(area, c, e, z);
+    let place = area::lookup_part::find(area, c, x);
+    area::resident_part::exchange_end(area, c, e, j, f as u64, b);
+    area::lookup_part::put(area, c, place, e, x);
     out
 }
