@@ -1,8 +1,8 @@
 -- The rules, clause by clause: one statement over one table of what the definitions give and what the rules say, which
 -- antt computes. Here: the bench cases P1 to P9, and what the slips of RULES 11.11 would change. The rows of the rules'
 -- other sections stand beside: BenchArc, BenchCar, BenchStates, BenchCalls, BenchBytes. A new row goes to its section,
--- under the sentence that it shows; `tools/rule_mutants` tells which changes of a definition no row refuses. Assumes
--- nothing.
+-- under the sentence that it shows; `tools/rule_mutants --rows` shows a row that does not hold, and
+-- `tools/rule_mutants` the changes of a definition that no row refuses. Assumes nothing.
 use mathlib.Core.Path.{_≡_, refl}
 use mathlib.Core.List.{List, [], _∷_, _++_, map}
 use Prim.Native.Nat.{ℕ}
