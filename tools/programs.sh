@@ -92,12 +92,18 @@ need() {
     done
 }
 
-# The crates of the repository that a program is made of, itself last.
+# The crates of the repository that a program is made of, itself last: crates.txt lists those that each names itself.
 crates_of() { # NAME
-    local dep
-    for dep in $(sed 's/#.*//' "$root/crates.txt" | awk -F: -v n="$1" '$1 == n { print $2 }') "$1"; do
-        if [ -d "$root/crates/$dep" ]; then echo "$dep"; fi
-    done
+    sed 's/#.*//' "$root/crates.txt" | awk -F: -v program="$1" '
+        function visit(name, i, many, below) {
+            if (name in seen || !(name in lists)) return
+            seen[name] = 1
+            many = split(lists[name], below, " ")
+            for (i = 1; i <= many; i++) visit(below[i])
+            print name
+        }
+        NF > 1 { lists[$1] = $2 }
+        END { visit(program) }'
 }
 
 # older FILE NAME: FILE is not there, or a file of the crates that NAME is made of has changed since, as the clock tells

@@ -2,27 +2,14 @@
 bytes; what the program must write for it is `wanted`."""
 import os
 import random
-import subprocess
 import sys
 
 sys.dont_write_bytecode = True
 sys.path.insert(0, os.path.dirname(os.path.abspath(__file__)))
 from model import program, trace, written  # noqa: E402
 
-ROOT = os.path.dirname(os.path.dirname(os.path.abspath(__file__)))
 BUFFER = 65536  # the bytes that the program reads at a time
 LINES = 262144  # the bytes of lines that it writes at a time
-
-
-def run_words(ask=''):
-    """The words that run a program for x86-64: the kit's loader, under its emulator where the machine is no x86-64. `ask` is a step of the shell to
-    be taken first, with tools/programs.sh at hand."""
-    say = '. "$1/tools/programs.sh" && %s printf "%%s\\n" "$kit" "$tools" "${RUN[@]}"' % (ask + ' &&' if ask else '')
-    run = subprocess.run(['bash', '-c', say, os.path.basename(sys.argv[0]), ROOT], stdout=subprocess.PIPE, text=True)
-    if run.returncode:
-        sys.exit(2)
-    kit, tools, *words = run.stdout.split('\n')[:-1]
-    return kit, tools, words
 
 
 def wanted(data):
