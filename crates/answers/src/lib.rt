@@ -1,11 +1,12 @@
 // What the calls on a cache answer, the same for both policies: one enum for each kind of answer. `specs/Answers` gives
 // the rules' number and values for each case. `Refused` is refusal 3: the area is not well formed for the policy. An
 // inner call never gives it.
+#![tactic(auto)]
 ghost use Rattle.std.specs.Prelude.{◌≡◌};
 ghost use Rattle.answers.specs.Answers.{place_is, place_of_list};
 
 // `get`: the frame, or a miss.
-#[derive(Drop)]
+#[derive(Clone, Copy)]
 pub enum Got {
     Hit(u32),
     Miss,
@@ -13,7 +14,7 @@ pub enum Got {
 }
 
 // `peek`: the frame, or nothing.
-#[derive(Drop)]
+#[derive(Clone, Copy)]
 pub enum Seen {
     See(u32),
     No,
@@ -21,14 +22,14 @@ pub enum Seen {
 }
 
 // `contains`: whether the page is resident.
-#[derive(Drop)]
+#[derive(Clone, Copy)]
 pub enum Held {
     Holds(bool),
     Refused,
 }
 
 // `remove`: the frame of the page that left, or nothing.
-#[derive(Drop)]
+#[derive(Clone, Copy)]
 pub enum Gone {
     Frame(u32),
     Absent,
@@ -36,21 +37,21 @@ pub enum Gone {
 }
 
 // `clear`.
-#[derive(Drop)]
+#[derive(Clone, Copy)]
 pub enum Cleared {
     Cleared,
     Refused,
 }
 
 // `len`, `capacity`, `p_value` and the lengths of the lists.
-#[derive(Drop)]
+#[derive(Clone, Copy)]
 pub enum Counted {
     Number(u64),
     Refused,
 }
 
 // The ghost list that a victim is recorded in: B1 for one of T1, B2 for one of T2.
-#[derive(Drop)]
+#[derive(Clone, Copy)]
 pub enum Place {
     B1,
     B2,
@@ -58,7 +59,7 @@ pub enum Place {
 
 // `insert`: stored without a victim; stored, with the victim's page and frame, where it is recorded, and the replacement steps; updated,
 // with the old frame; not stored.
-#[derive(Drop)]
+#[derive(Clone, Copy)]
 pub enum Inserted {
     New,
     Out {
@@ -73,7 +74,7 @@ pub enum Inserted {
 }
 
 // What an operation of a trace answers.
-#[derive(Drop)]
+#[derive(Clone, Copy)]
 pub enum Reply {
     Got(Got),
     Inserted(Inserted),

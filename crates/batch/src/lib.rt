@@ -2,6 +2,7 @@
 // record of counts says what this batch did; after a refusal 4 or 5 the operations before it are counted. `run` is the
 // inner form; `tally_up` and `batch` take any words, the one with counts by value, the other with a lent record of
 // them.
+#![tactic(auto)]
 ghost use Rattle.std.specs.Prelude.{◌≡◌};
 ghost use Rattle.rules.specs.Counts.{no_counts, plus, counted};
 ghost use Rattle.answers.specs.Answers.{reply_is};
@@ -15,7 +16,7 @@ use rules::Kind;
 use trace::{Cursor, Found};
 
 // What a batch did. `removals` are those that found their page.
-#[derive(Drop)]
+#[derive(Clone, Copy)]
 pub struct Counts {
     pub gets: u64,
     pub get_hits: u64,
@@ -27,7 +28,7 @@ pub struct Counts {
 }
 
 // The operations done; the refusal 4 or 5 that stopped it, with the offset of the operation's first byte; refusal 3.
-#[derive(Drop)]
+#[derive(Clone, Copy)]
 pub enum Ran {
     Done(u64),
     Stopped { number: u8, offset: u64 },
@@ -35,7 +36,7 @@ pub enum Ran {
 }
 
 // What a batch answers, and its counts.
-#[derive(Drop)]
+#[derive(Clone, Copy)]
 pub struct Tally {
     pub ran: Ran,
     pub counts: Counts,

@@ -1,5 +1,6 @@
 // CAR (RULES 6; src/policy/car.rs): what only CAR has in an insert, the sweep that finds the victim. The calls are in
 // `inner_calls`.
+#![tactic(auto)]
 ghost use Rattle.rules.specs.Car.{replace};
 ghost use Rattle.contracts.specs.Policy.{car_policy};
 ghost use Rattle.stages.specs.Common.{HasResident};
@@ -28,7 +29,7 @@ pub fn sweep(area: &mut [u64], c: usize, in_b2: bool) -> Victim
 }
 
 // What one step of a replacement does: the page at the hand is passed over, or it is the victim; then its clock and its slot.
-#[derive(Drop)]
+#[derive(Clone, Copy)]
 enum Stepped {
     Passed,
     Meets(usize, usize),

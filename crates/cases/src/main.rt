@@ -1,6 +1,7 @@
 // The test program `cases`: the cases P1 to P8 of RULES 11, what is run only, and every refusal number, through public
 // calls. A line for each. The file stdout is written by hand from docs/RULES.md; the lists are read from the words of
 // the area by docs/LAYOUT.md.
+#![tactic(auto)]
 ghost use Rattle.std.specs.Prelude.{◌≡◌, ◌≤◌, length};
 
 use answers::{Cleared, Counted, Gone, Got, Held, Inserted, Place, Seen};

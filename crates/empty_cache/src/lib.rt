@@ -1,5 +1,6 @@
 // An empty cache in an area: made where any words may lie, and made again where a cache was. ARC's `new` and CAR's call this one with
 // the kind 1 and 2. Each part is lent to the crate that it belongs to.
+#![tactic(auto)]
 ghost use Rattle.std.specs.Prelude.{◌≡◌, ◌<◌, ◌/◌};
 ghost use Rattle.rules.specs.Car.{new as newState};
 ghost use Rattle.residents.specs.Changes.{made as madeResidents};
@@ -13,7 +14,7 @@ ghost use Rattle.area.specs.Stored.{Stored, Left};
 ghost use Rattle.empty_cache.specs.Fresh.{Fits, headed, Empty, New};
 
 // What `new` answers: an empty cache is made, or refused by a number.
-#[derive(Drop)]
+#[derive(Clone, Copy)]
 pub enum Made {
     Made,
     Refused(u8),

@@ -1,5 +1,6 @@
 // README.md's example: a cache of 2 frames by ARC, and the page faults of a small system with 3 frames. One frame
 // holds nothing: the next page is read into it, and the frame of the page that has to go holds nothing then.
+#![tactic(auto)]
 use answers::{Got, Inserted};
 use arc_core::ArcCore;
 use empty_cache::Made;

@@ -6,6 +6,7 @@
 // Each area is made a cache once, by `start`. A round may be handed any words, so it checks the six areas first, once. From there on every call is
 // an inner call of `arc`. An inner call asks that its area is well formed, and here a proof answers, not a check: the check said so, and every inner
 // call leaves it so. That a fault of one guest changes no word of another is the contract of `serve`.
+#![tactic(auto)]
 ghost use Rattle.std.specs.Prelude.{◌≡◌, ◌<◌, ◌≤◌, length};
 ghost use Rattle.contracts.specs.Outer.{made_is};
 ghost use Rattle.guests.specs.Guests.{hits as hitsOf, served_is, Ready, Faulted, AllReady, Checks, Tells, Started, Alone, Stepped, Even, Ran, Rounds};
@@ -19,21 +20,21 @@ use rules::Kind;
 // What a page fault comes to. Resident: the page is in this frame; the frame that was offered is still free. Filled: the page was not resident, and
 // `insert` tells what became of it. `New`: it is in the frame that was offered. `Out`: so it is, and another page went out of its frame: unmap that
 // page, and its frame is free. `None`: a cache of 0 frames stores nothing. `Old`, the page was resident, does not come after a miss.
-#[derive(Drop)]
+#[derive(Clone, Copy)]
 pub enum Served {
     Resident(u32),
     Filled(Inserted),
 }
 
 // All six areas hold a cache of ARC, or this guest's is the first that does not.
-#[derive(Drop)]
+#[derive(Clone, Copy)]
 pub enum Checked {
     All,
     Refused(usize),
 }
 
 // The hits of a round; the guest whose area is refused; fewer words than six areas need, or not as many pages and frames as guests.
-#[derive(Drop)]
+#[derive(Clone, Copy)]
 pub enum Outcome {
     Hits(u64),
     Refused(usize),

@@ -2,6 +2,7 @@
 // for both policies; and `words`. A caller that lends a struct is proved by hand. So each of the two has one caller
 // here, the shortest there is: it lends a local, and returns it beside the answer. It also tells what is left of the
 // header's unused words. The file stdout is written by hand from docs/RULES.md and docs/LAYOUT.md.
+#![tactic(auto)]
 ghost use Rattle.contracts.specs.Policy.{policy_of};
 ghost use Rattle.batch.specs.Outcomes.{ran_is, BatchOutcome};
 ghost use Rattle.listing.specs.Outcome.{ListingOutcome};
@@ -15,7 +16,7 @@ use listing::{Listed, Record};
 use rules::Kind;
 
 // What a listing answers, and the four records that were lent to it.
-#[derive(Drop)]
+#[derive(Clone, Copy)]
 struct Listing {
     answer: Listed,
     records: [Record; 4],

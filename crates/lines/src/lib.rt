@@ -1,6 +1,7 @@
 // The text of the replay program's lines (RULES 9), written into a lent buffer. Each writer answers the position behind
 // what it wrote; the bytes before and behind the text stay. A caller that has room for `line_room` bytes has room for
 // any line.
+#![tactic(auto)]
 ghost use Rattle.std.specs.Prelude.{◌++◌};
 ghost use Rattle.rules.specs.Calls.{New, out as victim, Finished, Stopped};
 ghost use Rattle.rules.specs.Decimal.{decimal};

@@ -1,6 +1,7 @@
 // The residents of a cache, page and frame, into a lent slice of records: ARC's by T1 newest to oldest and then T2 likewise, CAR's by
 // rising slot. `prepare` checks the area and tells how many records are written and where the first resident stands; `advance` reads one
 // resident and tells where the next one stands; `list` is the loop over them that writes. All together is linear in the capacity.
+#![tactic(auto)]
 ghost use Rattle.std.specs.Prelude.{◌≡◌, cond, ◌+◌, ◌-◌, ◌≤◌, eqb, get_or};
 ghost use Rattle.area.specs.Stored.{Stored, state_in};
 ghost use Rattle.store.specs.Store.{slots_at};
@@ -14,7 +15,7 @@ use opening::Opened;
 use rules::Kind;
 
 // A resident as a listing writes it.
-#[derive(Drop)]
+#[derive(Clone, Copy)]
 pub struct Record {
     pub page: u64,
     pub frame: u32,
@@ -22,7 +23,7 @@ pub struct Record {
 
 // How many records a listing wrote; or `Room`, refusal 6: there are fewer records than residents; or `Refused`, refusal 3: the area is
 // not well formed for the policy.
-#[derive(Drop)]
+#[derive(Clone, Copy)]
 pub enum Listed {
     Count(u64),
     Room,
@@ -30,14 +31,14 @@ pub enum Listed {
 }
 
 // What a listing answers, and records of which it wrote so many.
-#[derive(Drop)]
+#[derive(Clone, Copy)]
 pub struct Listing {
     pub answer: Listed,
     pub records: [Record; 1024],
 }
 
 // What a listing answers, how many records it writes, and where the first resident stands.
-#[derive(Drop)]
+#[derive(Clone, Copy)]
 pub struct Plan {
     pub answer: Listed,
     pub count: usize,
@@ -45,7 +46,7 @@ pub struct Plan {
 }
 
 // A resident, and where the next one stands.
-#[derive(Drop)]
+#[derive(Clone, Copy)]
 pub struct Step {
     pub resident: Record,
     pub next: usize,

@@ -8,6 +8,7 @@
 //
 // Callers know of `look` (specs/Lookup.antt) and of the laws of proofs/Look.antt: that it is a plain search of the
 // places held. No answer shows a bucket.
+#![tactic(auto)]
 ghost use Rattle.std.specs.Prelude.{◌≡◌, ◌+◌, ◌*◌, ◌<◌, ◌≤◌, length, ◌==◌};
 ghost use Rattle.cells.specs.Cells.{In, next_of, prev_of};
 ghost use Rattle.rings.specs.Rings.{CanDetach, CanReplace};
@@ -56,7 +57,7 @@ pub fn bucket_of(k: usize, inverse: usize, p: u64) -> usize
 
 // A number of buckets, and what `belongs` needs to do without a division: the remainders of 2^22 and 2^44 by k, and how
 // often k goes into 2^40.
-#[derive(Drop)]
+#[derive(Clone, Copy)]
 pub struct Divisor {
     pub k: usize,
     pub near: usize,

@@ -15,6 +15,7 @@
 // Tried, as programs in C, and left: every place tested for itself by its links both ways (no faster: as many branches,
 // more steps); buckets of two places without a branch too (more steps than the mispredictions saved); the longer
 // buckets put aside and walked after the others (6 % faster where lengths are random, slower elsewhere). D67.
+#![tactic(auto)]
 ghost use Rattle.std.specs.Prelude.{◌≡◌, ◌≤◌};
 ghost use Rattle.lookup.specs.Part.{Room};
 ghost use Rattle.lookup_check.specs.Check.{walk_from, walk_of, lookup_test, shown_page, places_at, alone_test, CanWalk, CanPass, CanGoOn};
@@ -22,7 +23,7 @@ ghost use Rattle.lookup_check.specs.Check.{walk_from, walk_of, lookup_test, show
 use lookup::Divisor;
 
 // What a walk finds: how much of the budget is left, or that the words are no lookup, or that the budget is too small.
-#[derive(Drop)]
+#[derive(Clone, Copy)]
 pub enum Rest {
     Left(usize),
     Bad,

@@ -1,10 +1,11 @@
 // Numbers of a trace: groups of seven bits, lowest group first, in the shortest form.
+#![tactic(auto)]
 ghost use Rattle.std.specs.Prelude.{◌≡◌};
 ghost use Rattle.numbers.specs.Reading.{number_of, page_of, frame_of};
 ghost use Rattle.numbers.specs.Widths.{Wide, Long};
 
 // What is wrong with a number, with the place of the faulty byte, counted from the number's first byte.
-#[derive(Drop)]
+#[derive(Clone, Copy)]
 pub enum Fault {
     // The bytes end before the number does; the place is that of the first missing byte.
     Missing(usize),
@@ -15,14 +16,14 @@ pub enum Fault {
 }
 
 // What stands at the start of some bytes: a number and how many bytes it takes, or a fault.
-#[derive(Drop)]
+#[derive(Clone, Copy)]
 pub enum Number {
     Value { value: u64, used: usize },
     Faulty(Fault),
 }
 
 // The same for a frame.
-#[derive(Drop)]
+#[derive(Clone, Copy)]
 pub enum Frame {
     Value { value: u32, used: usize },
     Faulty(Fault),

@@ -1,12 +1,13 @@
 // The way from any words to an inner call: the state check, and the capacity of the cache that the words hold. Every
 // public call starts here.
+#![tactic(auto)]
 ghost use Rattle.contracts.specs.Policy.{policy_of};
 ghost use Rattle.opening.specs.Opening.{Opens};
 
 use rules::Kind;
 
 // The capacity of the cache in an area, or refusal 3.
-#[derive(Drop)]
+#[derive(Clone, Copy)]
 pub enum Opened {
     Cache(usize),
     Refused,

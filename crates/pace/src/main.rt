@@ -9,6 +9,7 @@
 // Where REPEATS is 0 a trace of any length is run once, while it is read: one buffer is filled again and again. The counts
 // are then told in any case, and after them the last line of the replay program: `end N` after N operations, or `stop R at
 // O`, where the counts are those of the operations before byte O.
+#![tactic(auto)]
 ghost use Rattle.std.specs.Prelude.{◌≡◌, ◌<◌, ◌≤◌, length};
 ghost use Rattle.pace.specs.Ready.{Ready};
 
@@ -18,14 +19,14 @@ use opening::Opened;
 use rules::Kind;
 
 // A word of the command line as a number.
-#[derive(Drop)]
+#[derive(Clone, Copy)]
 enum Word {
     Number(u64),
     Bad,
 }
 
 // What is to be run.
-#[derive(Drop)]
+#[derive(Clone, Copy)]
 struct Job {
     kind: Kind,
     capacity: u64,
@@ -33,14 +34,14 @@ struct Job {
 }
 
 // What the command line asks for.
-#[derive(Drop)]
+#[derive(Clone, Copy)]
 enum Asked {
     Job(Job),
     Unclear,
 }
 
 // How far the input is read: the bytes that the last buffer has, where its whole operations end, and whether the input may go on.
-#[derive(Drop)]
+#[derive(Clone, Copy)]
 struct Reading {
     filled: usize,
     end: usize,
@@ -48,7 +49,7 @@ struct Reading {
 }
 
 // How far a run is: the counts, the operations done, the bytes passed, and the number of the refusal that stopped it there, or 0.
-#[derive(Drop)]
+#[derive(Clone, Copy)]
 struct Run {
     counts: Counts,
     done: u64,
@@ -57,7 +58,7 @@ struct Run {
 }
 
 // Where a run that reads stands: the run, how many bytes wait at the start of the buffer, and whether to go on.
-#[derive(Drop)]
+#[derive(Clone, Copy)]
 struct Standing {
     run: Run,
     kept: usize,
@@ -65,7 +66,7 @@ struct Standing {
 }
 
 // Where the whole operations of four buffers end.
-#[derive(Drop)]
+#[derive(Clone, Copy)]
 struct Ends {
     first: usize,
     second: usize,

@@ -6,6 +6,7 @@
 // the input, as many as there is room for; `write_all` writes what it is handed; and `write` hands it the lines of the
 // turn, once. tools/wrong_shells tries that by runs. The rest is proved: `Replays` in specs/Standing.antt, with the
 // theorem `any_buffer` of `replaying`.
+#![tactic(auto)]
 ghost use Rattle.std.specs.Prelude.{◌≡◌, ◌≤◌, length};
 ghost use Rattle.replay.specs.Standing.{Stands, Holds, Refills, Goes, Turned as TurnedTo, Replays};
 
@@ -13,7 +14,7 @@ use libc::{STDIN_FILENO, STDOUT_FILENO};
 use replaying::{Replay, Turned};
 
 // Where the program stands: the replay, how many bytes of the input wait at the start of the buffer, and whether to go on.
-#[derive(Drop)]
+#[derive(Clone, Copy)]
 struct Standing {
     replay: Replay,
     kept: usize,

@@ -1,5 +1,6 @@
 // The replay program (RULES 9) on an input that comes in pieces: what it has told and has still to tell, and the code
 // that tells it. The caller reads, calls `feed` and writes; nothing here grows with the input.
+#![tactic(auto)]
 ghost use Rattle.std.specs.Prelude.{◌≡◌, ◌≤◌, length, take};
 ghost use Rattle.numbers.specs.Reading.{frame_of};
 ghost use Rattle.lines.specs.Lines.{line_room};
@@ -14,7 +15,7 @@ use trace::{Cursor, Found};
 
 // Where a replay stands: nothing was read; operations are run on a cache of a kind and of a capacity, of which `done` are done and the
 // next stands at the input's byte `offset`; the last line was told.
-#[derive(Drop)]
+#[derive(Clone, Copy)]
 pub enum Replay {
     Start,
     Running {
@@ -27,7 +28,7 @@ pub enum Replay {
 }
 
 // What a feed gives back: where the replay stands then, how many bytes of the input it used up, and how many bytes it wrote.
-#[derive(Drop)]
+#[derive(Clone, Copy)]
 pub struct Fed {
     pub replay: Replay,
     pub used: usize,
@@ -36,7 +37,7 @@ pub struct Fed {
 
 // What a turn gives back: where the replay stands then, how many bytes of the input wait at the front of the buffer, and how many bytes of lines there
 // are to write.
-#[derive(Drop)]
+#[derive(Clone, Copy)]
 pub struct Turned {
     pub replay: Replay,
     pub kept: usize,
@@ -44,7 +45,7 @@ pub struct Turned {
 }
 
 // What the first bytes of the input say: the cache to replay on, with how many bytes said it; or a refusal with its offset.
-#[derive(Drop)]
+#[derive(Clone, Copy)]
 pub enum Header {
     Cache { kind: Kind, c: usize, used: usize },
     Stop { refusal: u8, offset: u64 },

@@ -6,6 +6,7 @@
 // are numbered, 0 for T1, 1 for T2 and 2 for the free slots, so that T1 and T2 are served by the same code. Pages stand
 // elsewhere: whoever calls keeps the page of each slot. How a change of the words changes the three lists is said by
 // the laws of proofs/Moves.antt.
+#![tactic(auto)]
 ghost use Rattle.std.specs.Prelude.{◌≡◌, ◌+◌, ◌*◌, ◌<◌};
 ghost use Rattle.tails.specs.Tails.{with_tail};
 ghost use Rattle.cells.specs.Cells.{next_of, prev_of};

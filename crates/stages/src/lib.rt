@@ -1,5 +1,6 @@
 // What ARC and CAR do alike, once for both, over the operations of `store`: the slot of a page, how many are resident, the ghost hit, and the
 // list to replace from. `specs/Stages` has the stages of an insert over the policy, and `proofs` the laws that both policies' calls cite.
+#![tactic(auto)]
 ghost use Rattle.std.specs.Prelude.{◌≡◌, ◌<◌};
 ghost use Rattle.rules.specs.State.{residents};
 ghost use Rattle.rules.specs.Stages.{prefers_t1};
@@ -9,7 +10,7 @@ ghost use Rattle.store.specs.Store.{HasGhost};
 ghost use Rattle.stages.specs.Common.{SlotIs, AimIs, hit_at, TurnIs};
 
 // The slot that holds the page, or none.
-#[derive(Drop)]
+#[derive(Clone, Copy)]
 pub enum Slot {
     At(usize),
     Nobody,
@@ -17,14 +18,14 @@ pub enum Slot {
 
 // How an insert goes on once the page is found: the resident of a slot is updated; or the page, which no list has any
 // more, comes to T1 (0) or T2 (1), after a hit in B2 or not. Flat: an enum inside an enum is kept in memory (D64).
-#[derive(Drop)]
+#[derive(Clone, Copy)]
 pub enum Way {
     Stays(usize),
     Comes(usize, bool),
 }
 
 // The victim of a replacement: its list (0 for T1, 1 for T2), its slot, and the steps of the replacement, the one that puts it out among them.
-#[derive(Drop)]
+#[derive(Clone, Copy)]
 pub struct Victim {
     pub list: usize,
     pub slot: usize,

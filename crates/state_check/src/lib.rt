@@ -3,6 +3,7 @@
 // Each ring is walked from both ends, each bucket of the lookup once. A place of the lookup that belongs to a free slot or to a spare cell has to be
 // dead: then the lookup, which holds as many places as the lists have, holds exactly theirs. All is linear in the capacity whatever the
 // words are.
+#![tactic(auto)]
 ghost use Rattle.std.specs.Prelude.{◌≡◌, ◌+◌, ◌*◌, ◌<◌};
 ghost use Rattle.rings.specs.Rings.{members_of};
 ghost use Rattle.rings.specs.Walks.{ahead, behind};

@@ -1,6 +1,7 @@
 // The test program `states` (oracle/README.md): on each case of standard input the answers, the state after each operation, the counts of the
 // batch and the listing. The operations are public calls; the states are read from the words of the area by docs/LAYOUT.md, and not by the
 // library, so that this is a second reading of them. What is right, crates/states/stdout, comes from the Rust oracle (oracle/make_vectors).
+#![tactic(auto)]
 ghost use Rattle.std.specs.Prelude.{◌≡◌, ◌≤◌, length};
 
 use answers::{Inserted, Reply};
@@ -11,14 +12,14 @@ use rules::Kind;
 use trace::{Cursor, Found, Operation};
 
 // What is told of a state so far: whether the numbers are told whole, and their digest.
-#[derive(Drop)]
+#[derive(Clone, Copy)]
 struct Sink {
     whole: bool,
     digest: u64,
 }
 
 // What the cells of a ring are, and so which numbers are told of each.
-#[derive(Drop)]
+#[derive(Clone, Copy)]
 enum Cells {
     Arc,
     Car,

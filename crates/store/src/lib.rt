@@ -1,6 +1,7 @@
 // One area as a store of residents and ghosts: the operations that both policies are made of. Each asks that the area
 // holds a cache of capacity c, and leaves one; what it does to the state that the area reads as is said in the rules'
 // own words (area_state/specs/States.antt). No policy is known here, and no link.
+#![tactic(auto)]
 ghost use Rattle.std.specs.Prelude.{◌≡◌, ◌+◌, ◌<◌, ◌≤◌, eqb, ltb, length, get_or};
 ghost use Rattle.rules.specs.State.{list, ghosts};
 ghost use Rattle.rules.specs.Car.{taken as slotTaken};
@@ -11,7 +12,7 @@ ghost use Rattle.area.specs.Stored.{Stored, state_in, Left};
 ghost use Rattle.store.specs.Store.{IsSlot, AnySlot, HasGhost, FoundIs, Evicts, CanEnter, HasSome, FirstIs, LastIs, slots_at, NextIs, HasOldest, dropped_at, Names, GivesPlace, CanExchange};
 
 // Where a page is: a resident by its slot, a ghost of B1 or of B2 by its cell, or in no list.
-#[derive(Drop)]
+#[derive(Clone, Copy)]
 pub enum Found {
     Resident(usize),
     InB1(usize),
@@ -20,7 +21,7 @@ pub enum Found {
 }
 
 // A resident that is put out, by its page and its frame.
-#[derive(Drop)]
+#[derive(Clone, Copy)]
 pub struct Out {
     pub page: u64,
     pub frame: u32,

@@ -1,5 +1,6 @@
 // What the test programs read and write. Text goes to standard output at once, with no buffer to be lent: a call then lends one slice at most, and the proofs of the
 // test programs, whose cost grows with every loan, stay small.
+#![tactic(auto)]
 use libc::{STDIN_FILENO, STDOUT_FILENO};
 
 // The bytes of a word.

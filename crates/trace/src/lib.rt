@@ -1,4 +1,5 @@
 // Traces: operations one after the other, read by a cursor, and the check of a whole trace.
+#![tactic(auto)]
 ghost use Rattle.std.specs.Prelude.{◌≡◌, ◌+◌, ◌<◌, ◌^◌, length};
 ghost use Rattle.trace.specs.Reading.{check_of, told_into, room_in};
 ghost use Rattle.trace.specs.Steps.{step_to, step_at, step_of};
@@ -6,7 +7,7 @@ ghost use Rattle.trace.specs.Steps.{step_to, step_at, step_of};
 use numbers::{Frame, Number};
 
 // 1 get, 2 insert, 3 remove, 4 clear, 5 peek; then page (1, 2, 3, 5) and frame (2).
-#[derive(Drop)]
+#[derive(Clone, Copy)]
 pub enum Operation {
     Get { page: u64 },
     Insert { page: u64, frame: u32 },
@@ -16,13 +17,13 @@ pub enum Operation {
 }
 
 // A place in a trace.
-#[derive(Drop)]
+#[derive(Clone, Copy)]
 pub struct Cursor {
     pub at: usize,
 }
 
 // What stands at a cursor: an operation, the trace's end, or a refusal 4 or 5 with its offset.
-#[derive(Drop)]
+#[derive(Clone, Copy)]
 pub enum Found {
     Read(Operation),
     End,
@@ -30,7 +31,7 @@ pub enum Found {
 }
 
 // The cursor, moved past an operation that was read, and else where it was, with what stood there.
-#[derive(Drop)]
+#[derive(Clone, Copy)]
 pub struct Step {
     pub cursor: Cursor,
     pub found: Found,
@@ -38,7 +39,7 @@ pub struct Step {
 
 // What the check of a trace tells: how many operations read whole, the refusal that stopped it (0 for none), and that refusal's
 // offset (the trace's length for none).
-#[derive(Drop)]
+#[derive(Clone, Copy)]
 pub struct Checked {
     pub operations: usize,
     pub refusal: u8,
