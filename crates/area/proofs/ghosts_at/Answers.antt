@@ -1,0 +1,20 @@
+use Rattle.area.proofs.Laws.{laws}
+use Rattle.area.proofs.ghosts_at.Goals as goal
+
+pub overflow_mul-result : goal.overflow_mul-result
+overflow_mul-result c = search laws
+
+pub overflow_add-result : goal.overflow_add-result
+overflow_add-result c = search laws
+
+pub returns-then-i-eq0 : goal.returns-then-i-eq0
+returns-then-i-eq0 c = search laws
+
+pub overflow_mul-result-2 : goal.overflow_mul-result-2
+overflow_mul-result-2 c = search laws
+
+pub overflow_add-result-2 : goal.overflow_add-result-2
+overflow_add-result-2 c = search laws
+
+pub returns : goal.returns
+returns c = search laws

@@ -1,0 +1,15 @@
+-- `inner_calls::choose` meets its contract: the kind says which policy. Assumes nothing.
+use Rattle.inner_calls.proofs.Laws.{own_laws}
+use Rattle.inner_calls.proofs.choose.Goals as goal
+
+pub oldest-requires : goal.oldest-requires
+oldest-requires c = search own_laws
+
+pub sweep-requires : goal.sweep-requires
+sweep-requires c = search own_laws
+
+pub returns-in-Arc : goal.returns-in-Arc
+returns-in-Arc c = search own_laws
+
+pub returns-in-Car : goal.returns-in-Car
+returns-in-Car c = search own_laws

@@ -1,0 +1,27 @@
+-- `lines::put_gone` meets its contract, case by case. Assumes nothing.
+use Rattle.answers.specs.Answers.{gone_is}
+use Rattle.lines.proofs.Texts.{told_as}
+use Rattle.rules.specs.Program.{text_of}
+use Rattle.lines.proofs.Laws.{texts}
+use Rattle.lines.proofs.put_gone.Goals as goal
+
+pub overflow_cast-frame : goal.overflow_cast-frame
+overflow_cast-frame c = search texts
+
+pub put_line-requires : goal.put_line-requires
+put_line-requires c = search texts
+
+pub put_word-requires : goal.put_word-requires
+put_word-requires c = search texts
+
+pub returns-in-Frame : goal.returns-in-Frame
+unfolding text_of
+returns-in-Frame c = search (told_as gone_is, texts)
+
+pub returns-in-Absent : goal.returns-in-Absent
+unfolding text_of
+returns-in-Absent c = search (told_as gone_is, texts)
+
+pub returns-in-Refused : goal.returns-in-Refused
+unfolding text_of
+returns-in-Refused c = search (told_as gone_is, texts)

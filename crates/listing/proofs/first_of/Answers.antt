@@ -1,0 +1,18 @@
+-- `listing::first_of` meets its contract. Assumes nothing.
+use Rattle.listing.proofs.Laws.{laws}
+use Rattle.listing.proofs.first_of.Goals as goal
+
+pub start-e-requires : goal.start-e-requires
+start-e-requires c = search laws
+
+pub onward-requires : goal.onward-requires
+onward-requires c = search laws
+
+pub taken_from-requires : goal.taken_from-requires
+taken_from-requires c = search laws
+
+pub returns-in-Arc : goal.returns-in-Arc
+returns-in-Arc c = search laws
+
+pub returns-in-Car : goal.returns-in-Car
+returns-in-Car c = search laws

@@ -1,0 +1,14 @@
+-- `lookup::unlink` meets its contract. The cell is there, before the store and after it. Assumes nothing.
+use Rattle.lookup.specs.Changes.{unlinked}
+use Rattle.lookup.proofs.Needs.{marking}
+use Rattle.lookup.proofs.unlink.Goals as goal
+
+pub detach-requires : goal.detach-requires
+detach-requires c = search marking
+
+pub set_prev-requires : goal.set_prev-requires
+set_prev-requires c = search marking
+
+pub returns : goal.returns
+unfolding unlinked
+returns c = cc

@@ -1,0 +1,16 @@
+-- `store::enter_end` meets its contract. Assumes nothing.
+use Rattle.store.proofs.Entering.{enter_adds, enter_puts, enter_end_left}
+use Rattle.store.proofs.Laws.{laws}
+use Rattle.store.proofs.enter_end.Goals as goal
+
+pub find-place-requires : goal.find-place-requires
+find-place-requires c = search laws
+
+pub add_end-e-requires : goal.add_end-e-requires
+add_end-e-requires c = enter_adds _ _ _ _ _ c.requires.0 c.requires.1
+
+pub put-requires : goal.put-requires
+put-requires c = enter_puts _ _ _ _ _ c.requires.0 c.requires.1 _ c.find-place.ensures _ _ _ c.add_end-e.ensures
+
+pub returns : goal.returns
+returns c = enter_end_left _ _ _ _ _ c.requires.0 c.requires.1 _ c.find-place.ensures _ _ _ c.ranges.f.fits c.add_end-e.ensures _ c.put.ensures

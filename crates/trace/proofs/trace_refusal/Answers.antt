@@ -1,0 +1,12 @@
+-- `trace::trace_refusal` meets its contract: a field of the check's answer. Assumes nothing.
+use Rattle.trace.proofs.Checks.{laws}
+use Rattle.trace.proofs.trace_refusal.Goals as goal
+
+pub check-c-requires : goal.check-c-requires
+check-c-requires c = search laws
+
+pub overflow_cast-result : goal.overflow_cast-result
+overflow_cast-result c = search laws
+
+pub returns : goal.returns
+returns c = search laws
