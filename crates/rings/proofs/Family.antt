@@ -108,6 +108,7 @@ mem_together P (suc n) i x h l = ⊎_elim (λ q. mem_left x (P n) (together P n)
 
 pub together_mem : (P : ℕ → List ℕ) (n x : ℕ) → Mem x (together P n) → (i : ℕ) × (i < n) × Mem x (P i)
 together_mem P (suc n) x l = ⊎_elim (λ k. (n, omega arith, k)) (λ k. let r = together_mem P n x k in let h : r.0 < n = r.1 in (r.0, omega arith, r.2)) (mem_append x (P n) (together P n) l)
+together_mem P zero x l = elim l [ ]
 
 pub together_same : (P Q : ℕ → List ℕ) (n : ℕ) → ((i : ℕ) → i < n → P i ≡ Q i) → together P n ≡ together Q n
 together_same P Q zero h = refl

@@ -47,6 +47,7 @@ mem_append e (x ∷ xs) ys (inr k) = ⊎_elim (λ j. inl (inr j)) (λ j. inr j) 
 pub mem_left : (e : ℕ) (xs ys : List ℕ) → Mem e xs → Mem e (xs ++ ys)
 mem_left e (x ∷ xs) ys (inl q) = inl q
 mem_left e (x ∷ xs) ys (inr k) = inr (mem_left e xs ys k)
+mem_left e [] ys x' = elim x' [ ]
 
 pub mem_right : (e : ℕ) (xs ys : List ℕ) → Mem e ys → Mem e (xs ++ ys)
 mem_right e [] ys k = k
@@ -64,6 +65,7 @@ below_fresh m s (x ∷ xs) h b = let k : x < m = b.0 in (λ q. omega arith, belo
 pub below_mem : (m : ℕ) (xs : List ℕ) (e : ℕ) → Below m xs → Mem e xs → e < m
 below_mem m (x ∷ xs) e b (inl q) = rw q b.0
 below_mem m (x ∷ xs) e b (inr k) = below_mem m xs e b.1 k
+below_mem m [] e b x'' = elim x'' [ ]
 
 pub below_append : (m : ℕ) (xs ys : List ℕ) → Below m xs → Below m ys → Below m (xs ++ ys)
 below_append m [] ys b e = e
@@ -79,6 +81,7 @@ below_without m e (x ∷ xs) b = go (eqb x e) (below_without m e xs b.1)
     go false r = (b.0, r)
 
 pub length_without : (e : ℕ) (xs : List ℕ) → Mem e xs → suc (length (without e xs)) ≡ length xs
+length_without e [] k = elim k [ ]
 length_without e (x ∷ xs) k = go (λ j. length_without e xs j) k (eqb x e) refl
   where
     go : (Mem e xs → suc (length (without e xs)) ≡ length xs) → Mem e (x ∷ xs) → (t : Bool) → eqb x e ≡ t → suc (length (cond t xs (x ∷ without e xs))) ≡ suc (length xs)
@@ -87,6 +90,7 @@ length_without e (x ∷ xs) k = go (λ j. length_without e xs j) k (eqb x e) ref
     go ih (inr j) false q = ap suc (ih j)
 
 pub mem_without : (e x : ℕ) (xs : List ℕ) → Mem x (without e xs) → Mem x xs
+mem_without e x [] k = elim k [ ]
 mem_without e x (y ∷ xs) k = go (eqb y e) (λ j. mem_without e x xs j) k
   where
     go : (t : Bool) → (Mem x (without e xs) → Mem x xs) → Mem x (cond t xs (y ∷ without e xs)) → (x ≡ y) ⊎ Mem x xs
@@ -95,6 +99,7 @@ mem_without e x (y ∷ xs) k = go (eqb y e) (λ j. mem_without e x xs j) k
     go false ih (inr k) = inr (ih k)
 
 pub mem_stays : (e x : ℕ) (xs : List ℕ) → (x ≡ e → ⊥) → Mem x xs → Mem x (without e xs)
+mem_stays e x [] n k = elim k [ ]
 mem_stays e x (y ∷ xs) n k = go (eqb y e) refl (λ j. mem_stays e x xs n j) k
   where
     go : (t : Bool) → eqb y e ≡ t → (Mem x xs → Mem x (without e xs)) → (x ≡ y) ⊎ Mem x xs → Mem x (cond t xs (y ∷ without e xs))

@@ -24,6 +24,7 @@ insert_first w a e (x ∷ xs) b l = rw (l.0, eq-eqb x x refl) refl
 
 -- before what followed x, without x, is the place of x
 pub insert_in_place : (w : List ℕ) (a : ℕ) (xs : List ℕ) (b x y : ℕ) → Links w a xs b → Fresh b xs → Distinct xs → Mem x xs → insert_before (next_of w x) y (without x xs) ≡ in_place_of x y xs
+insert_in_place w a [] b x y l fb d k = elim k [ ]
 insert_in_place w a (z ∷ zs) b x y l fb d k = go (λ j. insert_in_place w z zs b x y l.2 fb.1 d.1 j) k (eqb z x) refl
   where
     off : Mem x zs → z ≡ next_of w x → ⊥

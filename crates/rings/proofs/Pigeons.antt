@@ -1,6 +1,6 @@
 -- More laws of lists of cell numbers. In order: numbers in a row; the pigeonhole; the last.
 -- Assumes nothing.
-use mathlib.Core.Path.{◌≡◌, refl, sym, ap}
+use mathlib.Core.Path.{◌≡◌, refl, sym, ap, subst}
 use mathlib.Core.Logic.{◌⊎◌, inl, inr, ⊎_elim}
 use mathlib.Core.List.{List, [], ◌∷◌, ◌++◌}
 use Prim.Native.Nat.{ℕ, zero, suc, ◌+◌, ◌-◌, ◌<◌, ◌≤◌}
@@ -48,6 +48,7 @@ all_of (b ∷ B) A d s h x k =
     let j : Mem b A = s b (inl refl) in
     let one : suc (length (without b A)) ≡ length A = length_without b A j in
     ⊎_elim (λ q. inl q) (λ n. inr (all_of B (without b A) d.1 (λ y i. mem_stays b y A (λ q. not_mem b B d.0 (rw q at i)) (s y (inr i))) (omega arith) x (mem_stays b x A n k))) (same_or_other x b)
+all_of [] [] d s h x k = elim k [ ]
 
 -- so distinct numbers below m are at most m, and where they are m, they are all of them
 pub few : (m : ℕ) (xs : List ℕ) → Distinct xs → Below m xs → length xs ≤ m
@@ -68,4 +69,4 @@ last_mem a (x ∷ xs) = inr (last_mem x xs)
 
 pub without_last_lem : (a : ℕ) (xs : List ℕ) → Distinct (a ∷ xs) → without (last_of a xs) (a ∷ xs) ≡ without_last (a ∷ xs)
 without_last_lem a [] d = simp (eq-eqb a a refl)
-without_last_lem a (x ∷ xs) d = simp (ne_eqb a (last_of x xs) (λ q. not_mem a (x ∷ xs) d.0 (rw (sym q) at (last_mem x xs))), without_last_lem x xs d.1)
+without_last_lem a (x ∷ xs) d = simp (ne_eqb a (last_of x xs) (λ q. not_mem a (x ∷ xs) d.0 (subst (λ v. Mem v (x ∷ xs)) (sym q) (last_mem x xs))), without_last_lem x xs d.1)

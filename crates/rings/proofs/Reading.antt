@@ -1,5 +1,5 @@
 -- The reading of a ring is the only one: its members are found by following next from the sentinel. Assumes nothing.
-use mathlib.Core.Path.{◌≡◌, refl}
+use mathlib.Core.Path.{◌≡◌, refl, sym, subst}
 use mathlib.Core.Logic.{inl}
 use mathlib.Core.List.{List, [], ◌∷◌}
 use Prim.Native.Nat.{ℕ, zero, suc, ◌<◌, ◌≤◌}
@@ -39,7 +39,7 @@ last_is w m s xs r = links_last w s xs s r.links
 
 pub last_member : (w : List ℕ) (m s : ℕ) (xs : List ℕ) → Ring w m s xs → 0 < length xs → Mem (prev_of w s) xs
 last_member w m s [] r h = absurd (not-suc-le-zero h)
-last_member w m s (x ∷ xs) r h = rw (last_is w m s (x ∷ xs) r) (last_mem x xs)
+last_member w m s (x ∷ xs) r h = subst (λ v. Mem v (x ∷ xs)) (sym (last_is w m s (x ∷ xs) r)) (last_mem x xs)
 
 pub first_member : (w : List ℕ) (m s : ℕ) (xs : List ℕ) → Ring w m s xs → 0 < length xs → Mem (next_of w s) xs
 first_member w m s [] r h = absurd (not-suc-le-zero h)
@@ -47,4 +47,4 @@ first_member w m s (x ∷ xs) r h = inl r.links.0
 
 pub last_out : (w : List ℕ) (m s : ℕ) (xs : List ℕ) → Ring w m s xs → 0 < length xs → without (prev_of w s) xs ≡ without_last xs
 last_out w m s [] r h = absurd (not-suc-le-zero h)
-last_out w m s (x ∷ xs) r h = rw (last_is w m s (x ∷ xs) r) (without_last_lem x xs (ring_distinct w m s (x ∷ xs) r))
+last_out w m s (x ∷ xs) r h = subst (λ v. without v (x ∷ xs) ≡ without_last (x ∷ xs)) (sym (last_is w m s (x ∷ xs) r)) (without_last_lem x xs (ring_distinct w m s (x ∷ xs) r))

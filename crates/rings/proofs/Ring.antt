@@ -1,7 +1,7 @@
 -- The laws of one ring, and of another beside it. In order: lengths; the cells that a change leaves; what a ring has; a member put in and taken out;
 -- two rings share nothing; what a change of one ring does to another; what a change asks.
 -- Assumes nothing.
-use mathlib.Core.Path.{◌≡◌, sym, ◌∙◌}
+use mathlib.Core.Path.{◌≡◌, sym, subst, ◌∙◌}
 use mathlib.Core.Logic.{◌⊎◌, inl, inr, ⊎_elim}
 use mathlib.Core.List.{List, [], ◌∷◌}
 use Prim.Native.Nat.{ℕ, ◌<◌, ◌≤◌}
@@ -101,8 +101,9 @@ apart_from : (w : List ℕ) (m a : ℕ) (xs : List ℕ) (b t : ℕ) (ys : List �
 apart_from w m a (y ∷ xs) b t ys l bl r n fa x k =
     let ly : y < m = bl.0 in
     let high : m ≤ t = r.high in
-    let fy : Fresh y ys = fresh y ys (λ j. ⊎_elim (λ q. n (sym l.1 ∙ q)) (λ i. not_mem a ys fa (rw l.1 at i)) (prev_mem w t ys t y r.links j)) in
-    ⊎_elim (λ q. rw q fy) (λ j. apart_from w m y xs b t ys l.2 bl.1 r (omega arith) fy x j) k
+    let fy : Fresh y ys = fresh y ys (λ j. ⊎_elim (λ q. n (sym l.1 ∙ q)) (λ i. not_mem a ys fa (subst (λ v. Mem v ys) l.1 i)) (prev_mem w t ys t y r.links j)) in
+    ⊎_elim (λ q. subst (λ v. Fresh v ys) (sym q) fy) (λ j. apart_from w m y xs b t ys l.2 bl.1 r (omega arith) fy x j) k
+apart_from w m a [] b t ys l bl r n fa x k = elim k [ ]
 
 module _ (w : List ℕ) (m s t : ℕ) (xs ys : List ℕ) (r : Ring w m s xs) (o : Ring w m t ys) (n : s ≡ t → ⊥) where
   pub apart : (x : ℕ) → Mem x xs → Fresh x ys
@@ -110,7 +111,7 @@ module _ (w : List ℕ) (m s t : ℕ) (xs ys : List ℕ) (r : Ring w m s xs) (o 
 
   -- a cell of the one is none of the other
   cell_apart : (x : ℕ) → (x ≡ s) ⊎ Mem x xs → Fresh x (t ∷ ys)
-  cell_apart x (inl z) = rw z (n, below_fresh m s ys r.high o.below)
+  cell_apart x (inl z) = subst (λ v. Fresh v (t ∷ ys)) (sym z) (n, below_fresh m s ys r.high o.below)
   cell_apart x (inr k) = let l : x < m = member_below w m s xs r x k in let high : m ≤ t = o.high in (omega arith, apart x k)
 
   -- THE FRAME: a change of the ring of s leaves the ring of t
