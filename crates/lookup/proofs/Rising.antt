@@ -1,6 +1,6 @@
 -- The laws of places in rising order of their pages. In order: what rising places are; where a page is or belongs; a place put in, taken out, renamed.
 -- w and v are the words before and after. Assumes nothing.
-use Rattle.std.proofs.Common.{◌≡◌, ℕ, suc, ◌<◌, ◌≤◌, Bool, true, false, cond, eqb, ltb, ◌⊎◌, List, [], ◌∷◌, sym, refl, ap, ◌∙◌, inl, inr, ⊎_elim, arith, ltb-false, ltb-true, le-ltb, lt-ltb, eq-eqb, ne_eqb, eqb-true}
+use Rattle.std.proofs.Common.{◌≡◌, ℕ, suc, ◌<◌, ◌≤◌, Bool, true, false, cond, eqb, ltb, ◌⊎◌, List, [], ◌∷◌, sym, refl, ap, ◌∙◌, inl, inr, ⊎_elim, arith, ltb-false, ltb-true, le-ltb, lt-ltb, eq-eqb, ne_eqb, eqb-true, subst}
 use borrow.Author.Tests.{eqb-false}
 use Rattle.rings.specs.Members.{Mem, Fresh, Distinct, without, insert_before, in_place_of}
 use Rattle.rings.proofs.Members.{not_mem}
@@ -11,6 +11,7 @@ use Rattle.lookup.specs.Lookup.{Rising, seek}
 pub rising_least : (w : List ℕ) (low : ℕ) (xs : List ℕ) → Rising w low xs → (x : ℕ) → Mem x xs → low ≤ page_of w x
 rising_least w low (y ∷ xs) r x (inl q) = rw q r.0
 rising_least w low (y ∷ xs) r x (inr k) = let a : suc (page_of w y) ≤ page_of w x = rising_least w (suc (page_of w y)) xs r.1 x k in let b : low ≤ page_of w y = r.0 in omega arith
+rising_least w low [] r x x4 = elim x4 [ ]
 
 pub rising_lower : (w : List ℕ) (low high : ℕ) (xs : List ℕ) → low ≤ high → Rising w high xs → Rising w low xs
 rising_lower w low high [] h r = tt
@@ -22,6 +23,7 @@ rising_unique w low (z ∷ xs) r x y (inl p) (inl q) e = p ∙ sym q
 rising_unique w low (z ∷ xs) r x y (inl p) (inr j) e = let a : suc (page_of w z) ≤ page_of w y = rising_least w _ xs r.1 y j in let b : page_of w x ≡ page_of w z = ap (page_of w) p in absurd (let t : ⊥ = omega arith in t)
 rising_unique w low (z ∷ xs) r x y (inr k) (inl q) e = let a : suc (page_of w z) ≤ page_of w x = rising_least w _ xs r.1 x k in let b : page_of w y ≡ page_of w z = ap (page_of w) q in absurd (let t : ⊥ = omega arith in t)
 rising_unique w low (z ∷ xs) r x y (inr k) (inr j) e = rising_unique w _ xs r.1 x y k j e
+rising_unique w low [] r x y x6 _ e = elim x6 [ ]
 
 pub rising_same : (w v : List ℕ) (low : ℕ) (xs : List ℕ) → ((x : ℕ) → Mem x xs → page_of v x ≡ page_of w x) → Rising w low xs → Rising v low xs
 rising_same w v low [] h r = tt
@@ -40,6 +42,7 @@ seek_range w p s (x ∷ xs) = go (ltb (page_of w x) p) (seek_range w p s xs)
 pub seek_is : (w : List ℕ) (low p s : ℕ) (xs : List ℕ) → Rising w low xs → (x : ℕ) → Mem x xs → page_of w x ≡ p → seek w p s xs ≡ x
 seek_is w low p s (y ∷ xs) r x (inl q) e = let a : page_of w y ≡ p = ap (page_of w) (sym q) ∙ e in simp (le-ltb (page_of w y) p (omega arith)) (sym q)
 seek_is w low p s (y ∷ xs) r x (inr k) e = let a : suc (page_of w y) ≤ page_of w x = rising_least w _ xs r.1 x k in simp (lt-ltb (page_of w y) p (omega arith)) (seek_is w _ p s xs r.1 x k e)
+seek_is w low p s [] r x x5 e = elim x5 [ ]
 
 -- taken out
 pub rising_without : (w : List ℕ) (low e : ℕ) (xs : List ℕ) → Rising w low xs → Rising w low (without e xs)
@@ -91,6 +94,7 @@ rising_in_place w v low x y (z ∷ zs) r d same e = go (eqb z x) refl (rising_in
     go false q i = rw (same z (inl refl) (eqb-false z x q)) (r.0, i)
 
 pub mem_in_place : (x y z : ℕ) (xs : List ℕ) → Mem z (in_place_of x y xs) → (z ≡ y) ⊎ Mem z xs
+mem_in_place x y z [] k = elim k [ ]
 mem_in_place x y z (a ∷ xs) k = go (eqb a x) (λ j. mem_in_place x y z xs j) k
   where
     go : (t : Bool) → (Mem z (in_place_of x y xs) → (z ≡ y) ⊎ Mem z xs) → Mem z (cond t (y ∷ xs) (a ∷ in_place_of x y xs)) → (z ≡ y) ⊎ Mem z (a ∷ xs)
@@ -100,6 +104,7 @@ mem_in_place x y z (a ∷ xs) k = go (eqb a x) (λ j. mem_in_place x y z xs j) k
     go false ih (inr j) = ⊎_elim (λ q. inl q) (λ i. inr (inr i)) (ih j)
 
 pub in_place_stays : (x y z : ℕ) (xs : List ℕ) → (z ≡ x → ⊥) → Mem z xs → Mem z (in_place_of x y xs)
+in_place_stays x y z [] n k = elim k [ ]
 in_place_stays x y z (a ∷ xs) n k = go (eqb a x) refl (λ j. in_place_stays x y z xs n j) k
   where
     go : (t : Bool) → eqb a x ≡ t → (Mem z xs → Mem z (in_place_of x y xs)) → Mem z (a ∷ xs) → Mem z (cond t (y ∷ xs) (a ∷ in_place_of x y xs))
@@ -109,6 +114,7 @@ in_place_stays x y z (a ∷ xs) n k = go (eqb a x) refl (λ j. in_place_stays x 
     go false q ih (inr j) = inr (ih j)
 
 pub in_place_here : (x y : ℕ) (xs : List ℕ) → Mem x xs → Mem y (in_place_of x y xs)
+in_place_here x y [] k = elim k [ ]
 in_place_here x y (a ∷ xs) k = go (eqb a x) refl (λ j. in_place_here x y xs j) k
   where
     go : (t : Bool) → eqb a x ≡ t → (Mem x xs → Mem y (in_place_of x y xs)) → Mem x (a ∷ xs) → Mem y (cond t (y ∷ xs) (a ∷ in_place_of x y xs))
@@ -121,5 +127,5 @@ fresh_in_place x y [] n d = tt
 fresh_in_place x y (a ∷ xs) n d = go (eqb a x) refl (fresh_in_place x y xs n d.1)
   where
     go : (t : Bool) → eqb a x ≡ t → Fresh x (in_place_of x y xs) → Fresh x (cond t (y ∷ xs) (a ∷ in_place_of x y xs))
-    go true q i = (n, rw (sym (eqb-true a x q)) d.0)
+    go true q i = (n, subst (λ v. Fresh v xs) (eqb-true a x q) d.0)
     go false q i = (λ e. eqb-false a x q (sym e), i)

@@ -38,6 +38,7 @@ slot_complete w c i e s = rw (eq-eqb (list_of w c e) i s.list, lt-ltb (frame_of 
 pub slots_sound : (w : List ℕ) (c i : ℕ) (xs : List ℕ) → slots_test w c i xs ≡ true → (e : ℕ) → Mem e xs → Slot w c i e
 slots_sound w c i (x ∷ xs) q e (inl z) = rw z (slot_sound w c i x (both (slot_test w c i x) _ q).0)
 slots_sound w c i (x ∷ xs) q e (inr k) = slots_sound w c i xs (both (slot_test w c i x) _ q).1 e k
+slots_sound w c i [] q e x'' = elim x'' [ ]
 
 pub slots_complete : (w : List ℕ) (c i : ℕ) (xs : List ℕ) → ((e : ℕ) → Mem e xs → Slot w c i e) → slots_test w c i xs ≡ true
 slots_complete w c i [] h = refl
