@@ -39,6 +39,8 @@ pub record Gives (c : ℕ) (live spare : List ℕ) (cell : ℕ) (kept : List ℕ
 mem_without_last : (z : ℕ) (xs : List ℕ) → Mem z (without_last xs) → Mem z xs
 mem_without_last z (x ∷ y ∷ xs) (inl q) = inl q
 mem_without_last z (x ∷ y ∷ xs) (inr k) = inr (mem_without_last z (y ∷ xs) k)
+mem_without_last z [] x' = elim x' [ ]
+mem_without_last z (x ∷ []) x5 = elim x5 [ ]
 
 takes_full : (c x a : ℕ) (xs : List ℕ) (f : ℕ → ℕ) → c ≡ suc (length xs) → take c (x ∷ map f (a ∷ xs)) ≡ x ∷ map f (without_last (a ∷ xs))
 takes_full c x a xs f q = rw q (ap (λ (l : List ℕ). x ∷ l) (take_drop_last (length xs) (map f (a ∷ xs)) (ap suc (length-map xs f)) ∙ drop_last_map f (a ∷ xs)))

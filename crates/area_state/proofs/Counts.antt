@@ -27,12 +27,14 @@ times_once f p (x ∷ xs) d u = go (same_or_other p (f x)) (times_once f p xs d.
 pub times_some : (f : ℕ → ℕ) (p e : ℕ) (xs : List ℕ) → Mem e xs → f e ≡ p → 1 ≤ times p (map f xs)
 times_some f p e (x ∷ xs) (inl z) q = rw (eq-eqb p (f x) (sym q ∙ ap f z)) (omega arith)
 times_some f p e (x ∷ xs) (inr k) q = let h : 1 ≤ times p (map f xs) = times_some f p e xs k q in omega arith
+times_some f p e [] x'' q = elim x'' [ ]
 
 pub times_fresh : (k : ℕ) (xs : List ℕ) → Fresh k xs → times k xs ≡ 0
 times_fresh k [] f = refl
 times_fresh k (x ∷ xs) f = let h : times k xs ≡ 0 = times_fresh k xs f.1 in rw (ne_eqb k x f.0) (omega arith)
 
 pub times_member : (k : ℕ) (xs : List ℕ) → Distinct xs → Mem k xs → times k xs ≡ 1
+times_member k [] d m = elim m [ ]
 times_member k (x ∷ xs) d m = go (same_or_other k x) m (λ j. times_member k xs d.1 j)
   where
     go : (k ≡ x) ⊎ (k ≡ x → ⊥) → Mem k (x ∷ xs) → (Mem k xs → times k xs ≡ 1) → one (eqb k x) + times k xs ≡ 1
@@ -44,10 +46,12 @@ times_member k (x ∷ xs) d m = go (same_or_other k x) m (λ j. times_member k x
 pub mem_map : (f : ℕ → ℕ) (y : ℕ) (xs : List ℕ) → Mem y (map f xs) → (x : ℕ) × Mem x xs × (y ≡ f x)
 mem_map f y (x ∷ xs) (inl q) = (x, inl refl, q)
 mem_map f y (x ∷ xs) (inr k) = let r = mem_map f y xs k in (r.0, inr r.1, r.2)
+mem_map f y [] x' = elim x' [ ]
 
 pub map_mem : (f : ℕ → ℕ) (x : ℕ) (xs : List ℕ) → Mem x xs → Mem (f x) (map f xs)
 map_mem f x (y ∷ xs) (inl q) = inl (ap f q)
 map_mem f x (y ∷ xs) (inr k) = inr (map_mem f x xs k)
+map_mem f x [] x'' = elim x'' [ ]
 
 pub distinct_map : (f : ℕ → ℕ) (xs : List ℕ) → Distinct xs → ((x y : ℕ) → f x ≡ f y → x ≡ y) → Distinct (map f xs)
 distinct_map f [] d u = tt

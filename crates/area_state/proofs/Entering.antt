@@ -1,6 +1,6 @@
 -- A new resident enters T1 or T2 in the top free slot. Its page was held nowhere. In order: the top free slot; what the code asks; the parts and the state after it. Where it
 -- comes to is said in Adding.antt. Assumes nothing.
-use mathlib.Core.Path.{◌≡◌, refl, sym, ap, ◌∙◌}
+use mathlib.Core.Path.{◌≡◌, refl, sym, ap, ◌∙◌, subst}
 use mathlib.Core.Logic.{◌⊎◌, ⊎_elim}
 use mathlib.Core.List.{List, [], ◌∷◌, ◌++◌, map}
 use Prim.Native.Nat.{ℕ, ◌+◌, ◌<◌, ◌≤◌}
@@ -47,7 +47,7 @@ top_first w c (x ∷ xs) r h = sym (first_is (links_of c w) c (c + 2) x xs r)
 
 top_leaves : (e : ℕ) (xs : List ℕ) → 0 < length xs → get_or xs 0 0 ≡ e → without e xs ≡ drop 1 xs
 top_leaves e [] h q = absurd (not-suc-le-zero h)
-top_leaves e (x ∷ xs) h q = rw (sym q) (without_first x xs)
+top_leaves e (x ∷ xs) h q = subst (λ v. without v (x ∷ xs) ≡ xs) q (without_first x xs)
 
 -- the words v are the residents' once the top free slot, with the frame f and the bit b, has come to the list of side s, which then has the slots xs
 pub record Adds (c : ℕ) (p : Parts) (s : Side) (f b : ℕ) (v xs : List ℕ) : Type 0 where

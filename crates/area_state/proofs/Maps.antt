@@ -65,6 +65,7 @@ module _ {X : Type 0} (f : ℕ → Entry X) (p e : ℕ) (is : (f e).page ≡ p) 
       go (inr n) ih = rw (ne_eqb p (f x).page (λ z. n (u x (inl refl) (sym z))), ih) (ap (λ (y : Entry X). y ∷ map h xs) (sym (other x (inl refl) n)))
 
   pub found_map : (xs : List ℕ) → Mem e xs → ((x : ℕ) → Mem x xs → (f x).page ≡ p → x ≡ e) → found p (map f xs) ≡ some (f e)
+  found_map [] m u = elim m [ ]
   found_map (x ∷ xs) m u = go (same_or_other x e) m (λ k. found_map xs k (λ y j. u y (inr j)))
     where
       go : (x ≡ e) ⊎ (x ≡ e → ⊥) → Mem e (x ∷ xs) → (Mem e xs → found p (map f xs) ≡ some (f e)) → found p (map f (x ∷ xs)) ≡ some (f e)
@@ -78,6 +79,7 @@ found_none_map f p (x ∷ xs) n = rw (ne_eqb p (f x).page (λ q. n x (inl refl) 
 
 -- the resident of a slot, where each stands for its own
 pub at_slot_map : (f : ℕ → Resident) (k : ℕ) (xs : List ℕ) → ((x : ℕ) → (f x).more.slot ≡ x) → Mem k xs → at_slot k (map f xs) ≡ f k
+at_slot_map f k [] own m = elim m [ ]
 at_slot_map f k (x ∷ xs) own m = go (same_or_other x k) m (λ j. at_slot_map f k xs own j)
   where
     go : (x ≡ k) ⊎ (x ≡ k → ⊥) → Mem k (x ∷ xs) → (Mem k xs → at_slot k (map f xs) ≡ f k) → at_slot k (map f (x ∷ xs)) ≡ f k

@@ -40,6 +40,7 @@ pub mem_snoc : (e x : ℕ) (xs : List ℕ) → Mem x (xs ++ (e ∷ [])) → (x �
 mem_snoc e x [] (inl q) = inl q
 mem_snoc e x (y ∷ xs) (inl q) = inr (inl q)
 mem_snoc e x (y ∷ xs) (inr k) = ⊎_elim (λ q. inl q) (λ m. inr (inr m)) (mem_snoc e x xs k)
+mem_snoc e x [] (inr k) = elim k [ ]
 
 module _ (c : ℕ) (p : Parts) (L : ℕ → List ℕ) (live spare : Side → List ℕ) (a : HoldsAs c p L live spare) where
   -- e leaves list i and comes to list j, to its front or to its end

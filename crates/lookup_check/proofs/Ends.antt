@@ -1,5 +1,5 @@
 -- The walk of a bucket at its last place, the one before the sentinel: it ends well where the sentinel stands after it, and only there. Pages rise, so that a walk which goes on cannot come back. Assumes nothing.
-use mathlib.Core.Path.{◌≡◌, refl, ◌∙◌}
+use mathlib.Core.Path.{◌≡◌, refl, ◌∙◌, subst}
 use mathlib.Core.Logic.{inl, inr}
 use mathlib.Core.List.{List, [], ◌∷◌}
 use Prim.Native.Nat.{ℕ, suc, ◌+◌, ◌<◌, ◌≤◌}
@@ -26,7 +26,7 @@ ends_in l x (y ∷ ys) s ls = inr (ends_in l y ys s ls.2)
 no_return : (w : List ℕ) (m s a : ℕ) (xs : List ℕ) → Links (links_of m w) a xs s → Rising w (least_after w m a) xs → a < m → prev_of (links_of m w) s ≡ a → (next_of (links_of m w) a ≡ s → ⊥) → ⊥
 no_return w m s a [] ls r h q n = n ls.0
 no_return w m s a (x ∷ xs) ls r h q n =
-    let j : Mem a (x ∷ xs) = rw q at (ends_in (links_of m w) x xs s ls.2) in
+    let j : Mem a (x ∷ xs) = subst (λ v. Mem v (x ∷ xs)) q (ends_in (links_of m w) x xs s ls.2) in
     let l : suc (page_of w a) ≤ page_of w a = rw (least_place w m a h) at (rising_least w (least_after w m a) (x ∷ xs) r a j) in
     omega arith
 
