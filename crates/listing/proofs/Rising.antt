@@ -32,6 +32,7 @@ module _ (s : Lists Clocked) where
       go false j on less at = on j less at
 
   pub rising_taken : (k n e : ℕ) → Mem e (rising_from s k n) → ltb 0 (taken e s) ≡ true
+  rising_taken k zero e m = elim m [ ]
   rising_taken k (suc n) e m = go (ltb 0 (taken k s)) refl (rising_taken (suc k) n e) m
     where
       go : (b : Bool) → ltb 0 (taken k s) ≡ b → (Mem e (rising_from s (suc k) n) → ltb 0 (taken e s) ≡ true) → Mem e (cond b (k ∷ rising_from s (suc k) n) (rising_from s (suc k) n)) → ltb 0 (taken e s) ≡ true

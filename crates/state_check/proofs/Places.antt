@@ -32,6 +32,7 @@ pub deads_sound : (k : List ℕ) (m from : ℕ) (xs : List ℕ) → deads_test k
 unfolding dead_at
 deads_sound k m from (y ∷ xs) q x (inl z) = rw z (dead_told k m (from + y) (both (dead_at k m (from + y)) _ q).0)
 deads_sound k m from (y ∷ xs) q x (inr j) = deads_sound k m from xs (both (dead_at k m (from + y)) _ q).1 x j
+deads_sound k m from [] q x x4 = elim x4 [ ]
 
 pub deads_complete : (k : List ℕ) (m from : ℕ) (xs : List ℕ) → ((x : ℕ) → Mem x xs → Dead k m (from + x)) → deads_test k m from xs ≡ true
 unfolding dead_at
