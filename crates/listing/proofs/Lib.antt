@@ -9,3 +9,4 @@ pub mod Equal
 pub mod Laws
 pub mod Fields
 pub mod Finish
+pub mod Looping
