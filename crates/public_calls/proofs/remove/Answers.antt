@@ -1,0 +1,15 @@
+-- `public_calls::remove` meets its contract: at each need in the order of the code. Assumes nothing.
+use Rattle.public_calls.proofs.Laws.{laws}
+use Rattle.public_calls.proofs.remove.Goals as goal
+
+pub open-requires : goal.open-requires
+open-requires c = search laws
+
+pub remove-requires : goal.remove-requires
+remove-requires c = search laws
+
+pub returns-in-Cache : goal.returns-in-Cache
+returns-in-Cache c = search laws
+
+pub returns-in-Refused : goal.returns-in-Refused
+returns-in-Refused c = search laws
