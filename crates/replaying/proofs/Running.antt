@@ -146,7 +146,7 @@ module _ {S : Type 0} (does : Call → S → Done S) (s : S) where
 -- ---- the loop's invariant: the bytes before the place `at` are used up, n operations were done, and the lines of those since the start of the loop
 -- stand in the buffer before the place `put`
 pub record RunTo (k : Kind) (c o m : ℕ) (w bytes : List ℕ) (last : Bool) (before : List ℕ) (need : ℕ) (v out : List ℕ) (at n put : ℕ) : Type 0 where
-  pub rules : need ≡ needed last
+  pub needs : need ≡ needed last
   pub fits : o + length bytes < 2 ^ 64
   pub room : line_room ≤ length out
   pub inside : at ≤ length bytes

@@ -12,4 +12,4 @@ pub write-more-requires : goal.write-more-requires
 write-more-requires c = search laws
 
 pub returns : goal.returns
-returns c = (search laws, search laws)
+returns c = record { stands = search laws; turned_to = search laws }

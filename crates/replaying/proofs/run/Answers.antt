@@ -55,11 +55,10 @@ pub put_end-written-requires : goal.put_end-written-requires
 put_end-written-requires c = search laws
 
 pub returns-in-End : goal.returns-in-End
-returns-in-End c =
-    (
-  ends _ _ _ _ _ _ _ _ _ _ _ _ _ _ c.loop-at.invariant _ c.next-step.ensures c.if-bytes-at.false (search rules) _ _ c.put_end-written.ensures,
-  search wrote_last,
-)
+returns-in-End c = record {
+  feeds = ends _ _ _ _ _ _ _ _ _ _ _ _ _ _ c.loop-at.invariant _ c.next-step.ensures c.if-bytes-at.false (search rules) _ _ c.put_end-written.ensures;
+  wrote = search wrote_last;
+}
 
 pub overflow_add-offset : goal.overflow_add-offset
 overflow_add-offset c = search laws
@@ -68,8 +67,7 @@ pub put_stop-written-requires : goal.put_stop-written-requires
 put_stop-written-requires c = search laws
 
 pub returns-in-Refused : goal.returns-in-Refused
-returns-in-Refused c =
-    (
-  stops _ _ _ _ _ _ _ _ _ _ _ _ _ _ c.loop-at.invariant _ c.next-step.ensures c.if-bytes-at.false _ _ (search rules) _ _ c.put_stop-written.ensures,
-  search wrote_last,
-)
+returns-in-Refused c = record {
+  feeds = stops _ _ _ _ _ _ _ _ _ _ _ _ _ _ c.loop-at.invariant _ c.next-step.ensures c.if-bytes-at.false _ _ (search rules) _ _ c.put_stop-written.ensures;
+  wrote = search wrote_last;
+}

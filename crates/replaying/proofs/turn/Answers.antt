@@ -15,4 +15,4 @@ pub keep-kept-requires : goal.keep-kept-requires
 keep-kept-requires c = search laws
 
 pub returns : goal.returns
-returns c = (search laws, (search laws, search laws))
+returns c = record { turns = search laws; wrote = search laws; kept_in_bounds = search laws }
