@@ -8,7 +8,7 @@ use Rattle.rules.specs.State.{seen}
 use Rattle.rules.specs.Calls.{Place, ghost, nowhere, Old, done}
 use Rattle.rules.specs.Stages.{goes_to}
 use Rattle.rules.specs.Arc.{Arc, new, missed, room_for, admitted, insert_at, got, removed, inserted, does}
-use Rattle.rules.specs.Car.{new as newState}
+use Rattle.rules.specs.Car.{new as new_state}
 use Rattle.rules.proofs.Closure.{arc_call}
 use Rattle.area_state.specs.States.{resident_at}
 use Rattle.area.specs.Stored.{arc_of}
@@ -27,7 +27,7 @@ by_stages (ghost i) x f s = refl
 by_stages nowhere x f s = refl
 
 pub lawful : Lawful arc_policy stages
-unfolding does got removed inserted new newState arc_of
+unfolding does got removed inserted new new_state arc_of
 lawful = record {
   closed = arc_call;
   asks = asked_plainly;

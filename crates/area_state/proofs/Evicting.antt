@@ -7,7 +7,7 @@ use Prim.Native.Nat.{ℕ, ◌<◌, ◌≤◌}
 use native.Mathlib.Omega.{arith}
 use lib.ListN.{length, take}
 use lib.Dec.{eqb}
-use Rattle.rules.specs.State.{Side, first, second, leaves, without as withoutPage}
+use Rattle.rules.specs.State.{Side, first, second, leaves, without as without_page}
 use Rattle.rules.specs.Calls.{ghost}
 use Rattle.rules.specs.Ghosts.{record_in}
 use Rattle.rules.specs.Car.{Car, car, Resident}
@@ -34,7 +34,7 @@ use Rattle.area_state.proofs.Cells.{kept_of, Gives, gives}
 use Rattle.area_state.proofs.Handing.{Cleared, clears, Handed, hand_asks, hands}
 
 -- of a state of named lists
-evicted_as : (s : Side) (x e c t : ℕ) (T : Side → List Resident) (B : Side → List ℕ) (f : List ℕ) → car (record_in (ghost s) x (leaves x (state_as c t T B f).lists)) (e ∷ (state_as c t T B f).free) ≡ state_as c t (λ j. withoutPage x (T j)) (changed_at s (take c (x ∷ B s)) B) (e ∷ f)
+evicted_as : (s : Side) (x e c t : ℕ) (T : Side → List Resident) (B : Side → List ℕ) (f : List ℕ) → car (record_in (ghost s) x (leaves x (state_as c t T B f).lists)) (e ∷ (state_as c t T B f).free) ≡ state_as c t (λ j. without_page x (T j)) (changed_at s (take c (x ∷ B s)) B) (e ∷ f)
 unfolding state_as
 evicted_as first x e c t T B f = refl
 evicted_as second x e c t T B f = refl
@@ -196,7 +196,7 @@ module _ (c : ℕ) (p : Parts) (h : Holds c p) (i e : ℕ) (hi : i < 2) (k : Mem
   evicted_becomes =
       rw (resident_at_lem c p i e hi k)
       (becomes c q (freed_lists e (slots_of c p)) live_now spare_now holds_now (car (record_in (ghost s) (resident_of c p e).page (leaves (resident_of c p e).page (state_of c p).lists)) (e ∷ (state_of c p).free))
-      (states_same c p.target p.target (residents_as c q (freed_lists e (slots_of c p))) (λ j. withoutPage (resident_of c p e).page (residents_as c p (slots_of c p) j)) (ghosts_as c q live_now) B (freed_lists e (slots_of c p) 2) (e ∷ slots_of c p 2)
+      (states_same c p.target p.target (residents_as c q (freed_lists e (slots_of c p))) (λ j. without_page (resident_of c p e).page (residents_as c p (slots_of c p) j)) (ghosts_as c q live_now) B (freed_lists e (slots_of c p) 2) (e ∷ slots_of c p 2)
       refl
       (left_lists c p (slots_of c p) (live_in c p) (spare_in c p) a i e hi k q refl (λ z l. hand.pages z (omega arith) (λ w. let n : c ≤ ghost_place s c cell = place_high s c cell in omega arith)))
       lists_now

@@ -13,7 +13,7 @@ use Rattle.rules.specs.Stages.{place_of}
 use Rattle.rings.specs.Members.{Mem}
 use Rattle.lookup.specs.Buckets.{buckets_of, places_of}
 use Rattle.lookup.specs.Part.{page_of}
-use Rattle.lookup.specs.Lookup.{look, at, CanFind, none as nowhereHeld}
+use Rattle.lookup.specs.Lookup.{look, at, CanFind, none as nowhere_held}
 use Rattle.lookup.proofs.Look.{look_held, look_page, look_absent}
 use Rattle.lookup.proofs.Table.{can_find}
 use Rattle.area_state.specs.Parts.{Parts, ghost_place, HeldIn, Holds, resident_of, ghost_of, state_of}
@@ -107,7 +107,7 @@ module _ (c : ℕ) (p : Parts) (h : Holds c p) (x : ℕ) where
         rw (ghost_lacks first none_first, ghost_holds second g (found_cell second g low q)) refl
 
   -- none
-  module _ (e : look p.lookup (places_of c) (buckets_of c) x ≡ nowhereHeld) where
+  module _ (e : look p.lookup (places_of c) (buckets_of c) x ≡ nowhere_held) where
     pub absent : (z : ℕ) → HeldIn c p z → page_of p.lookup z ≡ x → ⊥
     absent = look_absent p.lookup (places_of c) (buckets_of c) h.table x e
 

@@ -6,14 +6,14 @@ use Prim.Native.Nat.{ℕ, ◌<◌}
 use native.Mathlib.Omega.{arith}
 use lib.ListN.{length}
 use Rattle.rules.specs.Lists.{leave, drop_last}
-use Rattle.rules.specs.State.{Side, first, second, ghosts, set_ghosts as setGhostsOf}
+use Rattle.rules.specs.State.{Side, first, second, ghosts, set_ghosts as set_ghosts_of}
 use Rattle.rules.specs.Ghosts.{drop_oldest}
 use Rattle.rules.specs.Car.{car, Resident}
 use Rattle.cells.specs.Cells.{prev_of}
 use Rattle.rings.specs.Members.{Mem, without, without_last}
 use Rattle.rings.proofs.Members.{not_mem, mem_without, fresh_without}
 use Rattle.rings.proofs.Reading.{last_member, last_out}
-use Rattle.ghosts.specs.Ghosts.{Ghosts, forgotten, CanForget, links_of as ghostLinks}
+use Rattle.ghosts.specs.Ghosts.{Ghosts, forgotten, CanForget, links_of as ghost_links}
 use Rattle.ghosts.proofs.Laws.{forget_ghosts}
 use Rattle.lookup.specs.Buckets.{buckets_of, places_of}
 use Rattle.lookup.specs.Lookup.{bucket_in}
@@ -131,14 +131,14 @@ module _ (c : ℕ) (p : Parts) (h : Holds c p) (i : Side) where
     forgot_becomes = forgets c p (slots_of c p) (live_in c p) (spare_in c p) (named c p h) i g k
 
   -- the oldest: it is dropped
-  module _ (g : ℕ) (some : 0 < length (live_in c p i)) (oldest : g ≡ prev_of (ghostLinks (ghosts_of i p)) c) where
+  module _ (g : ℕ) (some : 0 < length (live_in c p i)) (oldest : g ≡ prev_of (ghost_links (ghosts_of i p)) c) where
     pub oldest_live : Mem g (live_in c p i)
-    oldest_live = rw oldest (last_member (ghostLinks (ghosts_of i p)) c c (live_in c p i) (h.ghosts i).list some)
+    oldest_live = rw oldest (last_member (ghost_links (ghosts_of i p)) c c (live_in c p i) (h.ghosts i).list some)
 
     drops : leave (ghost_of i c p g) (map (ghost_of i c p) (live_in c p i)) ≡ drop_last (map (ghost_of i c p) (live_in c p i))
     drops =
         let a = named c p h in
-        let rest : without g (live_in c p i) ≡ without_last (live_in c p i) = rw oldest (last_out (ghostLinks (ghosts_of i p)) c c (live_in c p i) (h.ghosts i).list some) in
+        let rest : without g (live_in c p i) ≡ without_last (live_in c p i) = rw oldest (last_out (ghost_links (ghosts_of i p)) c c (live_in c p i) (h.ghosts i).list some) in
         leave_map (ghost_of i c p) (ghost_of i c p g) g refl (live_in c p i) (live_distinct c p (slots_of c p) (live_in c p) (spare_in c p) a i) (λ x m z. one_ghost c p (slots_of c p) (live_in c p) (spare_in c p) a i x g m oldest_live z)
         ∙ ap (map (ghost_of i c p)) rest
         ∙ sym (drop_last_map (ghost_of i c p) (live_in c p i))
@@ -148,4 +148,4 @@ module _ (c : ℕ) (p : Parts) (h : Holds c p) (i : Side) where
     forgot_oldest =
         let b = forgot_becomes g oldest_live in
         let e : leave (ghost_of i c p g) (ghosts i (state_of c p).lists) ≡ drop_last (ghosts i (state_of c p).lists) = rw (ghosts_are i c p) drops in
-        record { holds = b.holds; reads = b.reads ∙ ap (λ (l : List ℕ). car (setGhostsOf i l (state_of c p).lists) (state_of c p).free) e }
+        record { holds = b.holds; reads = b.reads ∙ ap (λ (l : List ℕ). car (set_ghosts_of i l (state_of c p).lists) (state_of c p).free) e }

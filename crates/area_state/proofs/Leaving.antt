@@ -4,7 +4,7 @@ use mathlib.Core.Logic.{◌⊎◌, inl, inr, ⊎_elim}
 use mathlib.Core.List.{List, ◌∷◌, map}
 use Prim.Native.Nat.{ℕ, ◌<◌, ◌≤◌}
 use native.Mathlib.Omega.{arith}
-use Rattle.rules.specs.State.{Side, first, second, leaves, without as withoutPage}
+use Rattle.rules.specs.State.{Side, first, second, leaves, without as without_page}
 use Rattle.rules.specs.Car.{Car, car, Resident}
 use Rattle.rings.specs.Members.{Mem, without}
 use Rattle.rings.specs.Rings.{changed}
@@ -30,7 +30,7 @@ use Rattle.area_state.proofs.Lists.{resident_same, ghosts_same, leaves_list}
 use Rattle.area_state.proofs.Slots.{less, mem_moved, fronted_lists, less_none, less_not}
 
 -- a resident leaves slot e: of a state of named lists
-left_as : (x e c t : ℕ) (T : Side → List Resident) (B : Side → List ℕ) (f : List ℕ) → car (leaves x (state_as c t T B f).lists) (e ∷ (state_as c t T B f).free) ≡ state_as c t (λ j. withoutPage x (T j)) B (e ∷ f)
+left_as : (x e c t : ℕ) (T : Side → List Resident) (B : Side → List ℕ) (f : List ℕ) → car (leaves x (state_as c t T B f).lists) (e ∷ (state_as c t T B f).free) ≡ state_as c t (λ j. without_page x (T j)) B (e ∷ f)
 unfolding state_as
 left_as x e c t T B f = refl
 
@@ -63,7 +63,7 @@ module _ (c : ℕ) (p : Parts) (L : ℕ → List ℕ) (live spare : Side → Lis
         map_same (resident_of c q) (resident_of c p) (without e (L u))
         (λ y m. let ly : y < c = slot_below c p L live spare a u y (omega arith) (mem_without e y (L u) m) in let s = same_freed p.residents c e i a.residents.room low hi (a.residents.slots i e hi k).list y ly in resident_same c p q y (pages y ly) (rw is s.frame) (rw is s.bit))
 
-    pub left_lists : (j : Side) → residents_as c q (freed_lists e L) j ≡ withoutPage (resident_of c p e).page (residents_as c p L j)
+    pub left_lists : (j : Side) → residents_as c q (freed_lists e L) j ≡ without_page (resident_of c p e).page (residents_as c p L j)
     unfolding changed
     left_lists first = stay 0 (omega arith) ∙ sym (leaves_list c p L live spare a i e hi k first)
     left_lists second = stay 1 (omega arith) ∙ sym (leaves_list c p L live spare a i e hi k second)
@@ -109,7 +109,7 @@ module _ (c : ℕ) (p : Parts) (h : Holds c p) (i e : ℕ) (hi : i < 2) (k : Mem
   removed_becomes =
       rw (resident_at_lem c p i e hi k)
       (becomes c q (freed_lists e (slots_of c p)) (live_in c p) (spare_in c p) holds_now (car (leaves (resident_of c p e).page (state_of c p).lists) (e ∷ (state_of c p).free))
-      (states_same c p.target p.target (residents_as c q (freed_lists e (slots_of c p))) (λ j. withoutPage (resident_of c p e).page (residents_as c p (slots_of c p) j)) (ghosts_as c q (live_in c p)) (ghosts_as c p (live_in c p)) (freed_lists e (slots_of c p) 2) (e ∷ slots_of c p 2)
+      (states_same c p.target p.target (residents_as c q (freed_lists e (slots_of c p))) (λ j. without_page (resident_of c p e).page (residents_as c p (slots_of c p) j)) (ghosts_as c q (live_in c p)) (ghosts_as c p (live_in c p)) (freed_lists e (slots_of c p) 2) (e ∷ slots_of c p 2)
       refl
       (left_lists c p (slots_of c p) (live_in c p) (spare_in c p) a i e hi k q refl (λ z l. took.pages z (omega arith)))
       (ghosts_same c p q (live_in c p) (λ s g m. took.pages (ghost_place s c g) (place_below s c g (live_below c p (slots_of c p) (live_in c p) (spare_in c p) a s g m))))

@@ -4,7 +4,7 @@ use mathlib.Core.List.{List, map}
 use Prim.Native.Nat.{ℕ, ◌<◌}
 use native.Mathlib.Omega.{arith}
 use lib.Dec.{eqb}
-use Rattle.rules.specs.State.{Side, first, second, entry, list, ghosts, without as withoutPage}
+use Rattle.rules.specs.State.{Side, first, second, entry, list, ghosts, without as without_page}
 use Rattle.rules.specs.Car.{clocked}
 use Rattle.rings.specs.Members.{Mem, without}
 use Rattle.residents.specs.Residents.{frame_of, bit_of}
@@ -46,7 +46,7 @@ ghosts_same c p q live h j = map_same (ghost_of j c q) (ghost_of j c p) (live j)
 
 -- the resident of slot e leaves the lists by its page
 module _ (c : ℕ) (p : Parts) (L : ℕ → List ℕ) (live spare : Side → List ℕ) (a : HoldsAs c p L live spare) (i e : ℕ) (hi : i < 2) (k : Mem e (L i)) where
-  pub leaves_list : (j : Side) → withoutPage (resident_of c p e).page (residents_as c p L j) ≡ map (resident_of c p) (without e (L (number_of j)))
+  pub leaves_list : (j : Side) → without_page (resident_of c p e).page (residents_as c p L j) ≡ map (resident_of c p) (without e (L (number_of j)))
   leaves_list j =
       let hj : number_of j < 2 = number_below j in
       without_map (resident_of c p) (resident_of c p e).page e refl (L (number_of j)) (slots_distinct c p L live spare a (number_of j) (omega arith)) (λ x m q. one_slot c p L live spare a (number_of j) i x e hj hi m k q)

@@ -9,7 +9,7 @@ use native.Mathlib.Omega.{arith}
 use lib.ListN.{length, take}
 use borrow.Author.Tests.{eq-eqb, ne_eqb}
 use Rattle.rules.specs.Lists.{leave, drop_last, last}
-use Rattle.rules.specs.State.{Entry, found, changed, without as withoutPage}
+use Rattle.rules.specs.State.{Entry, found, changed, without as without_page}
 use Rattle.rules.specs.Car.{Resident}
 use Rattle.rings.specs.Members.{Mem, Distinct, without, last_of, without_last}
 use Rattle.rings.proofs.Members.{same_or_other}
@@ -46,11 +46,11 @@ module _ {A : Type 0} where
 
 -- ---- residents: p is the page of the cell e, and of no other of xs
 module _ {X : Type 0} (f : ℕ → Entry X) (p e : ℕ) (is : (f e).page ≡ p) where
-  pub without_map : (xs : List ℕ) → Distinct xs → ((x : ℕ) → Mem x xs → (f x).page ≡ p → x ≡ e) → withoutPage p (map f xs) ≡ map f (without e xs)
+  pub without_map : (xs : List ℕ) → Distinct xs → ((x : ℕ) → Mem x xs → (f x).page ≡ p → x ≡ e) → without_page p (map f xs) ≡ map f (without e xs)
   without_map [] d u = refl
   without_map (x ∷ xs) d u = go (same_or_other x e) (without_map xs d.1 (λ y k. u y (inr k)))
     where
-      go : (x ≡ e) ⊎ (x ≡ e → ⊥) → withoutPage p (map f xs) ≡ map f (without e xs) → withoutPage p (map f (x ∷ xs)) ≡ map f (without e (x ∷ xs))
+      go : (x ≡ e) ⊎ (x ≡ e → ⊥) → without_page p (map f xs) ≡ map f (without e xs) → without_page p (map f (x ∷ xs)) ≡ map f (without e (x ∷ xs))
       go (inl q) ih = rw (eq-eqb x e q, eq-eqb p (f x).page (sym is ∙ ap (λ (y : ℕ). (f y).page) (sym q))) (ih ∙ ap (map f) (without_absent e xs (rw (sym q) d.0)))
       go (inr n) ih = rw (ne_eqb x e n, ne_eqb p (f x).page (λ z. n (u x (inl refl) (sym z)))) (ap (λ (l : List (Entry X)). f x ∷ l) ih)
 

@@ -5,7 +5,7 @@ use mathlib.Core.Logic.{◌⊎◌, ⊎_elim}
 use mathlib.Core.List.{List, [], ◌∷◌, ◌++◌, map}
 use Prim.Native.Nat.{ℕ, ◌<◌}
 use native.Mathlib.Omega.{arith}
-use Rattle.rules.specs.State.{Side, first, second, set_list, leaves, without as withoutPage}
+use Rattle.rules.specs.State.{Side, first, second, set_list, leaves, without as without_page}
 use Rattle.rules.specs.Car.{Car, car, Resident, with_bit}
 use Rattle.rings.specs.Members.{Mem, without}
 use Rattle.rings.specs.Rings.{changed}
@@ -26,7 +26,7 @@ use Rattle.area_state.proofs.Lists.{resident_same, leaves_list}
 use Rattle.area_state.proofs.Slots.{less, mem_moved, mem_snoc, fronted_lists, ended_lists, less_none, less_not, rearranged, list_number}
 
 -- a resident leaves its list, and T2 becomes l: of a state of named lists
-moved_as : (x c t : ℕ) (l : List Resident) (T : Side → List Resident) (B : Side → List ℕ) (f : List ℕ) → car (set_list second l (leaves x (state_as c t T B f).lists)) (state_as c t T B f).free ≡ state_as c t (changed_at second l (λ j. withoutPage x (T j))) B f
+moved_as : (x c t : ℕ) (l : List Resident) (T : Side → List Resident) (B : Side → List ℕ) (f : List ℕ) → car (set_list second l (leaves x (state_as c t T B f).lists)) (state_as c t T B f).free ≡ state_as c t (changed_at second l (λ j. without_page x (T j))) B f
 unfolding state_as
 moved_as x c t l T B f = refl
 
@@ -50,7 +50,7 @@ module _ (c : ℕ) (p : Parts) (h : Holds c p) (i e : ℕ) (hi : i < 2) (k : Mem
         (λ u y hu m. ⊎_elim (λ z. (i, hi, rw z.0 k)) (λ n. (u, hu, mem_without e y (slots_of c p u) n)) (mem_moved e 1 (slots_of c p) xs among u y m))
         (λ y m. ⊎_elim (λ z. absurd (let n : ⊥ = (let d : ◌≡◌ {A = ℕ} 2 1 = z.1 in omega arith) in n)) (λ n. mem_without e y (slots_of c p 2) n) (mem_moved e 1 (slots_of c p) xs among 2 y m))
 
-    lists_now : (j : Side) → residents_as c (set_residents v p) M j ≡ changed_at second l (λ j. withoutPage (resident_of c p e).page (residents_as c p (slots_of c p) j)) j
+    lists_now : (j : Side) → residents_as c (set_residents v p) M j ≡ changed_at second l (λ j. without_page (resident_of c p e).page (residents_as c p (slots_of c p) j)) j
     unfolding M changed
     lists_now first =
         map_same (resident_of c (set_residents v p)) (resident_of c p) (without e (slots_of c p 0)) (λ y m. same y (slot_below c p (slots_of c p) (live_in c p) (spare_in c p) a 0 y (omega arith) (mem_without e y (slots_of c p 0) m)) (less_not c p (slots_of c p) (live_in c p) (spare_in c p) a e 0 y (omega arith) m))
@@ -65,12 +65,12 @@ module _ (c : ℕ) (p : Parts) (h : Holds c p) (i e : ℕ) (hi : i < 2) (k : Mem
     unfolding ghost_of
     moves =
         becomes c (set_residents v p) M (live_in c p) (spare_in c p) holds_now (car (set_list second l (leaves (resident_of c p e).page (state_of c p).lists)) (state_of c p).free)
-        (states_same c p.target p.target (residents_as c (set_residents v p) M) (changed_at second l (λ j. withoutPage (resident_of c p e).page (residents_as c p (slots_of c p) j))) (ghosts_as c p (live_in c p)) (ghosts_as c p (live_in c p)) (M 2) (slots_of c p 2)
+        (states_same c p.target p.target (residents_as c (set_residents v p) M) (changed_at second l (λ j. without_page (resident_of c p e).page (residents_as c p (slots_of c p) j))) (ghosts_as c p (live_in c p)) (ghosts_as c p (live_in c p)) (M 2) (slots_of c p 2)
         refl lists_now (λ j. refl) free_now
         ∙ sym (ap (λ (s : Car). car (set_list second l (leaves (resident_of c p e).page s.lists)) s.free) (reads_as c p (slots_of c p) (live_in c p) (spare_in c p) a) ∙ moved_as (resident_of c p e).page c p.target l (residents_as c p (slots_of c p)) (ghosts_as c p (live_in c p)) (slots_of c p 2)))
 
   -- the residents that stay in T2
-  stay : (v : List ℕ) → ((y : ℕ) → y < c → (y ≡ e → ⊥) → resident_of c (set_residents v p) y ≡ resident_of c p y) → map (resident_of c (set_residents v p)) (without e (slots_of c p 1)) ≡ withoutPage (resident_of c p e).page (map (resident_of c p) (slots_of c p 1))
+  stay : (v : List ℕ) → ((y : ℕ) → y < c → (y ≡ e → ⊥) → resident_of c (set_residents v p) y ≡ resident_of c p y) → map (resident_of c (set_residents v p)) (without e (slots_of c p 1)) ≡ without_page (resident_of c p e).page (map (resident_of c p) (slots_of c p 1))
   stay v same =
       map_same (resident_of c (set_residents v p)) (resident_of c p) (without e (slots_of c p 1)) (λ y m. same y (slot_below c p (slots_of c p) (live_in c p) (spare_in c p) a 1 y (omega arith) (mem_without e y (slots_of c p 1) m)) (less_not c p (slots_of c p) (live_in c p) (spare_in c p) a e 1 y (omega arith) m))
       ∙ sym (leaves_list c p (slots_of c p) (live_in c p) (spare_in c p) a i e hi k second)
@@ -86,7 +86,7 @@ module _ (c : ℕ) (p : Parts) (h : Holds c p) (i e : ℕ) (hi : i < 2) (k : Mem
   to_front_becomes =
       let v : List ℕ = promoted c e p.residents in
       rw (resident_at_lem c p i e hi k)
-      (moves v (e ∷ without e (slots_of c p 1)) (resident_of c p e ∷ withoutPage (resident_of c p e).page (map (resident_of c p) (slots_of c p 1)))
+      (moves v (e ∷ without e (slots_of c p 1)) (resident_of c p e ∷ without_page (resident_of c p e).page (map (resident_of c p) (slots_of c p 1)))
       (fronted_lists c p (slots_of c p) (live_in c p) (spare_in c p) a i 1 e (omega arith) (omega arith) k v (promote_residents p.residents c (slots_of c p) h.residents i e hi k))
       (λ y m. m) (λ y hy n. promoted_same y hy)
       (rw (promoted_same e low, stay v (λ y hy n. promoted_same y hy)) refl))
@@ -108,7 +108,7 @@ module _ (c : ℕ) (p : Parts) (h : Holds c p) (i e : ℕ) (hi : i < 2) (k : Mem
   to_end_becomes =
       let v : List ℕ = sent_back c e p.residents in
       rw (resident_at_lem c p i e hi k)
-      (moves v (without e (slots_of c p 1) ++ (e ∷ [])) (withoutPage (resident_of c p e).page (map (resident_of c p) (slots_of c p 1)) ++ (with_bit false (resident_of c p e) ∷ []))
+      (moves v (without e (slots_of c p 1) ++ (e ∷ [])) (without_page (resident_of c p e).page (map (resident_of c p) (slots_of c p 1)) ++ (with_bit false (resident_of c p e) ∷ []))
       (ended_lists c p (slots_of c p) (live_in c p) (spare_in c p) a i 1 e (omega arith) (omega arith) k v (send_back_residents p.residents c (slots_of c p) h.residents i e hi k))
       (λ y m. mem_snoc e y (without e (slots_of c p 1)) m) sent_same
       (map_append (resident_of c (set_residents v p)) (without e (slots_of c p 1)) (e ∷ []) ∙ rw (stay v sent_same, sent_here) refl))

@@ -12,7 +12,7 @@ use Rattle.rings.proofs.Members.{same_or_other, low_or_high, below_mem}
 use Rattle.rings.proofs.Ring.{ring_distinct}
 use Rattle.rings.proofs.Family.{changed_here, changed_other, rings_apart, together_covers}
 use Rattle.residents.specs.Residents.{links_of, total}
-use Rattle.ghosts.specs.Ghosts.{links_of as ghostLinks}
+use Rattle.ghosts.specs.Ghosts.{links_of as ghost_links}
 use Rattle.ghosts.proofs.Laws.{live_or_spare}
 use Rattle.lookup.specs.Buckets.{buckets_of, places_of}
 use Rattle.lookup.specs.Part.{page_of}
@@ -48,7 +48,7 @@ module _ (c : ℕ) (p : Parts) (L : ℕ → List ℕ) (live spare : Side → Lis
 
   -- no cell in both lists of a side, nor twice in one
   pub live_distinct : (i : Side) → Distinct (live i)
-  live_distinct i = ring_distinct (ghostLinks (ghosts_of i p)) c c (live i) (a.ghosts i).list
+  live_distinct i = ring_distinct (ghost_links (ghosts_of i p)) c c (live i) (a.ghosts i).list
 
   -- a slot that leaves list i leaves each list as it is without that slot
   pub out_of_lem : (i e u : ℕ) → i < 3 → u < 3 → Mem e (L i) → out_of i e L u ≡ without e (L u)

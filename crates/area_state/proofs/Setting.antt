@@ -8,7 +8,7 @@ use Rattle.rules.specs.State.{with_frame, Side, changed_in, changed}
 use Rattle.rules.specs.Car.{Car, car, Resident, with_bit}
 use Rattle.rings.specs.Members.{Mem}
 use Rattle.residents.specs.Residents.{Residents}
-use Rattle.residents.specs.Changes.{with_frame as frameWords, with_bit as bitWords}
+use Rattle.residents.specs.Changes.{with_frame as frame_words, with_bit as bit_words}
 use Rattle.residents.proofs.Words.{frame_here, bit_here, same_frame, same_bit, bit_with_frame, frame_with_bit}
 use Rattle.residents.proofs.Slots.{set_frame_residents, set_bit_residents}
 use Rattle.area_state.specs.Parts.{Parts, set_target, set_residents, number_of, Holds, resident_of, ghost_of, state_of}
@@ -65,15 +65,15 @@ module _ (c : ℕ) (p : Parts) (h : Holds c p) (i e : ℕ) (hi : i < 2) (k : Mem
   unfolding framed framed_at resident_of
   framed_becomes f hf =
       rw (resident_at_lem c p i e hi k)
-      (changes (frameWords e f p.residents) (with_frame f) (set_frame_residents p.residents c (slots_of c p) h.residents e low f hf)
+      (changes (frame_words e f p.residents) (with_frame f) (set_frame_residents p.residents c (slots_of c p) h.residents e low f hf)
       (rw (frame_here p.residents c e low h.residents.room.head f, bit_with_frame p.residents c e low f) refl)
-      (λ x l n. let s = same_frame p.residents c e low x l n f in resident_same c p (set_residents (frameWords e f p.residents) p) x refl s.frame s.bit))
+      (λ x l n. let s = same_frame p.residents c e low x l n f in resident_same c p (set_residents (frame_words e f p.residents) p) x refl s.frame s.bit))
 
   -- A BIT
   pub marked_becomes : (b : ℕ) → b < 2 → Becomes c (marked c e b p) (marked_at e (eqb b 1) (state_of c p))
   unfolding marked marked_at resident_of
   marked_becomes b hb =
       rw (resident_at_lem c p i e hi k)
-      (changes (bitWords c e b p.residents) (with_bit (eqb b 1)) (set_bit_residents p.residents c (slots_of c p) h.residents e low b hb)
+      (changes (bit_words c e b p.residents) (with_bit (eqb b 1)) (set_bit_residents p.residents c (slots_of c p) h.residents e low b hb)
       (rw (bit_here p.residents c e low h.residents.room.head b, frame_with_bit p.residents c e low b) refl)
-      (λ x l n. let s = same_bit p.residents c e low x l n b in resident_same c p (set_residents (bitWords c e b p.residents) p) x refl s.frame s.bit))
+      (λ x l n. let s = same_bit p.residents c e low x l n b in resident_same c p (set_residents (bit_words c e b p.residents) p) x refl s.frame s.bit))

@@ -2,11 +2,11 @@
 use Rattle.std.specs.Prelude.{Bool, true, false, List, ℕ, eqb}
 use Rattle.rules.specs.State.{Side}
 use Rattle.rules.specs.Stages.{start_target}
-use Rattle.residents.specs.Changes.{with_frame, with_bit, promoted, sent_back, freed, top_of, added_front, added_end, made as madeResidents}
-use Rattle.ghosts.specs.Ghosts.{count_of, record_cell, recorded, forgotten, made as madeGhosts}
+use Rattle.residents.specs.Changes.{with_frame, with_bit, promoted, sent_back, freed, top_of, added_front, added_end, made as made_residents}
+use Rattle.ghosts.specs.Ghosts.{count_of, record_cell, recorded, forgotten, made as made_ghosts}
 use Rattle.lookup.specs.Buckets.{places_of, buckets_of}
 use Rattle.lookup.specs.Lookup.{find_of}
-use Rattle.lookup.specs.Changes.{put_in, taken, renamed, made as madeLookup}
+use Rattle.lookup.specs.Changes.{put_in, taken, renamed, made as made_lookup}
 use Rattle.area_state.specs.Parts.{Parts, ghosts_of, set_residents, set_ghosts, set_lookup, ghost_place}
 
 -- the frame, or the bit, of the resident of slot e
@@ -64,8 +64,8 @@ unfoldable pub made : ℕ → Parts → Parts
 made c p =
     record {
       target = start_target c;
-      residents = madeResidents c p.residents;
-      ghosts1 = madeGhosts c p.ghosts1;
-      ghosts2 = madeGhosts c p.ghosts2;
-      lookup = madeLookup (places_of c) (buckets_of c) p.lookup;
+      residents = made_residents c p.residents;
+      ghosts1 = made_ghosts c p.ghosts1;
+      ghosts2 = made_ghosts c p.ghosts2;
+      lookup = made_lookup (places_of c) (buckets_of c) p.lookup;
     }

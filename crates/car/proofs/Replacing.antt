@@ -25,7 +25,7 @@ use Rattle.stages.proofs.Staging.{then_left}
 use Rattle.contracts.specs.Policy.{car_policy}
 use Rattle.stages.specs.Stages.{Chooses}
 use Rattle.car.specs.Replace.{StepIs}
-use Rattle.car.specs.declared.Stepped as declaredStep
+use Rattle.car.specs.declared.Stepped as declared_step
 use Rattle.car.specs.declared.Stepped.TheVariants.{Passed, Meets}
 
 pub turn_stored : (c : ℕ) (w : List ℕ) → HasResident c w → Stored c w
@@ -113,9 +113,9 @@ module _ (c : ℕ) (w₀ w : List ℕ) (hit : Bool) (n : ℕ) (h : Sweeps c w₀
   pub sweep_has : HasResident c w
   sweep_has = record { stored = h.left.stored; some = h.some }
 
-  module _ (v : List ℕ) (r : declaredStep.Stepped) (d : StepIs c w v hit r) where
-    step_as : (a : declaredStep.Stepped) → r ≡ a → StepIs c w v hit a
-    step_as a q = subst (λ (y : declaredStep.Stepped). StepIs c w v hit y) q d
+  module _ (v : List ℕ) (r : declared_step.Stepped) (d : StepIs c w v hit r) where
+    step_as : (a : declared_step.Stepped) → r ≡ a → StepIs c w v hit a
+    step_as a q = subst (λ (y : declared_step.Stepped). StepIs c w v hit y) q d
 
     pub sweep_small : r ≡ Passed → n + 1 < 18446744073709551616
     sweep_small q =

@@ -8,7 +8,7 @@ use Rattle.area.specs.Area.{side_of}
 use Rattle.area.specs.Stored.{state_in, Left}
 use Rattle.store.specs.Store.{HasSlot}
 use Rattle.stages.specs.Stages.{out_of}
-use Rattle.car.specs.declared.Stepped as declaredStep
+use Rattle.car.specs.declared.Stepped as declared_step
 use Rattle.car.specs.declared.Stepped.TheVariants.{Passed, Meets}
 
 -- a step that puts nobody out: a replacement is that step, and then the replacement of what it leaves; one mark is cleared
@@ -25,6 +25,6 @@ pub record Meeting (c : ℕ) (w v : List ℕ) (hit : Bool) (i e : ℕ) : Type 0 
   pub slot : HasSlot c w i e
   pub is : replace hit (state_in c w) ≡ replaced (out_of i e (state_in c w)) (side_of i ∷ []) (evicted_at (side_of i) e (state_in c w))
 
-abbrev pub StepIs : ℕ → List ℕ → List ℕ → Bool → declaredStep.Stepped → Type 0
+abbrev pub StepIs : ℕ → List ℕ → List ℕ → Bool → declared_step.Stepped → Type 0
 StepIs c w v hit Passed = Passes c w v hit
 StepIs c w v hit (Meets i e) = Meeting c w v hit i e

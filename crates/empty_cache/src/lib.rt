@@ -2,13 +2,13 @@
 // the kind 1 and 2. Each part is lent to the crate that it belongs to.
 #![tactic(auto)]
 ghost use Rattle.std.specs.Prelude.{◌≡◌, ◌<◌, ◌/◌};
-ghost use Rattle.rules.specs.Car.{new as newState};
-ghost use Rattle.residents.specs.Changes.{made as madeResidents};
-ghost use Rattle.ghosts.specs.Ghosts.{made as madeGhosts};
+ghost use Rattle.rules.specs.Car.{new as new_state};
+ghost use Rattle.residents.specs.Changes.{made as made_residents};
+ghost use Rattle.ghosts.specs.Ghosts.{made as made_ghosts};
 ghost use Rattle.lookup.specs.Buckets.{buckets_of, places_of};
-ghost use Rattle.lookup.specs.Changes.{made as madeLookup};
+ghost use Rattle.lookup.specs.Changes.{made as made_lookup};
 ghost use Rattle.area_state.specs.Parts.{set_residents, set_ghosts, set_lookup};
-ghost use Rattle.area_state.specs.Changes.{made as madeParts};
+ghost use Rattle.area_state.specs.Changes.{made as made_parts};
 ghost use Rattle.area.specs.Area.{residents_in, ghosts_in, lookup_in, side_of, parts_of, Fit, Became};
 ghost use Rattle.area.specs.Stored.{Stored, Left};
 ghost use Rattle.empty_cache.specs.Fresh.{Fits, headed, Empty, New};
@@ -23,7 +23,7 @@ pub enum Made {
 // No residents: the free slots are 0, 1, 2 and so on.
 fn make_residents(area: &mut [u64], c: usize)
     requires { Fits c area.old }
-    ensures { Became c area.old area.new (set_residents (madeResidents c (residents_in c area.old)) (parts_of c area.old)) }
+    ensures { Became c area.old area.new (set_residents (made_residents c (residents_in c area.old)) (parts_of c area.old)) }
 {
     let b = area::B1_PER_FRAME * c + area::B1_BASE;
     residents::make(&mut area[area::HEADER..b], c);
@@ -32,7 +32,7 @@ fn make_residents(area: &mut [u64], c: usize)
 // No ghosts of a side.
 fn make_ghosts(area: &mut [u64], c: usize, i: usize)
     requires { Fit c area.old (i < 2) }
-    ensures { Became c area.old area.new (set_ghosts (side_of i) (madeGhosts c (ghosts_in (side_of i) c area.old)) (parts_of c area.old)) }
+    ensures { Became c area.old area.new (set_ghosts (side_of i) (made_ghosts c (ghosts_in (side_of i) c area.old)) (parts_of c area.old)) }
 {
     let a = area::ghosts_at(c, i);
     let b = a + area::GHOSTS_PER_FRAME * c + area::GHOSTS_BASE;
@@ -42,7 +42,7 @@ fn make_ghosts(area: &mut [u64], c: usize, i: usize)
 // A lookup that holds no place.
 fn make_lookup(area: &mut [u64], c: usize)
     requires { Fits c area.old }
-    ensures { Became c area.old area.new (set_lookup (madeLookup (places_of c) (buckets_of c) (lookup_in c area.old)) (parts_of c area.old)) }
+    ensures { Became c area.old area.new (set_lookup (made_lookup (places_of c) (buckets_of c) (lookup_in c area.old)) (parts_of c area.old)) }
 {
     let a = area::LOOKUP_PER_FRAME * c + area::LOOKUP_BASE;
     let b = area::AREA_PER_FRAME * c + area::AREA_BASE;
@@ -54,7 +54,7 @@ fn make_lookup(area: &mut [u64], c: usize)
 // All parts of an empty cache, and the target c / 2. Kind and capacity stay.
 fn make_parts(area: &mut [u64], c: usize)
     requires { Fits c area.old }
-    ensures { Became c area.old area.new (madeParts c (parts_of c area.old)) }
+    ensures { Became c area.old area.new (made_parts c (parts_of c area.old)) }
 {
     make_residents(area, c);
     make_ghosts(area, c, 0);
@@ -104,7 +104,7 @@ pub fn new(area: &mut [u64], kind: u64, c: u64) -> Made
 // The cache is empty again. Kind and capacity stay.
 pub fn clear(area: &mut [u64], c: usize)
     requires { Stored c area.old }
-    ensures { Left c area.old area.new (newState c) }
+    ensures { Left c area.old area.new (new_state c) }
 {
     make_parts(area, c);
 }

@@ -9,7 +9,7 @@
 #![tactic(auto)]
 ghost use Rattle.std.specs.Prelude.{◌≡◌, ◌<◌, ◌≤◌, length};
 ghost use Rattle.contracts.specs.Outer.{made_is};
-ghost use Rattle.guests.specs.Guests.{hits as hitsOf, served_is, Ready, Faulted, AllReady, Checks, Tells, Started, Alone, Stepped, Even, Ran, Rounds};
+ghost use Rattle.guests.specs.Guests.{hits as hits_of, served_is, Ready, Faulted, AllReady, Checks, Tells, Started, Alone, Stepped, Even, Ran, Rounds};
 
 use answers::{Got, Inserted};
 use arc_core::ArcCore;
@@ -82,7 +82,7 @@ fn serve(words: &mut [u64], guest: usize, page: u64, frame: u32) -> Served
 
 // How many hits that is.
 fn hits(served: Served) -> u64
-    ensures { result ≡ hitsOf (served_is served) }
+    ensures { result ≡ hits_of (served_is served) }
 {
     match served {
         Served::Resident(_) => 1,

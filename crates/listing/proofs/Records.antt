@@ -19,7 +19,7 @@ use Rattle.rules.proofs.ListLaws.{times_keys_append}
 use Rattle.rules.proofs.Slots.{slot_of}
 use Rattle.rules.proofs.ListingLaws.{car_listing}
 use Rattle.rings.specs.Members.{Mem}
-use Rattle.area_state.specs.Parts.{resident_of, state_of as stateOfParts}
+use Rattle.area_state.specs.Parts.{resident_of, state_of as state_of_parts}
 use Rattle.area_state.specs.States.{at_slot, resident_at}
 use Rattle.area_state.proofs.HoldsAs.{slots_of}
 use Rattle.area_state.proofs.Reading.{resident_at_lem, slots_read, state_obeys}
@@ -74,7 +74,7 @@ module _ (c : ℕ) (w : List ℕ) (t : Stored c w) where
   at_resident i side x m = resident_at_lem c (parts_of c w) i x side m
 
   arc_records_lem : arc.listing (arc_of (state_in c w)) ≡ records_are (map (record_at (state_in c w)) (order_in kinds.Arc c w))
-  unfolding order arc_of state_in stateOfParts
+  unfolding order arc_of state_in state_of_parts
   arc_records_lem =
       let xs : List ℕ = slots_of c (parts_of c w) 0 in
       let ys : List ℕ = slots_of c (parts_of c w) 1 in

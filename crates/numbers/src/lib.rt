@@ -1,5 +1,6 @@
 // Numbers of a trace: groups of seven bits, lowest group first, in the shortest form.
 #![tactic(auto)]
+
 ghost use Rattle.std.specs.Prelude.{◌≡◌};
 ghost use Rattle.numbers.specs.Reading.{number_of, page_of, frame_of};
 ghost use Rattle.numbers.specs.Widths.{Wide, Long};

@@ -5,11 +5,11 @@ use mathlib.Core.Bool.{true}
 use Prim.Native.Nat.{◌-◌, ◌^◌}
 use Rattle.numbers.specs.Reading.{page_of, frame_of}
 use Rattle.numbers.specs.Widths.{top}
-use Rattle.numbers.proofs.Examples as numbers-examples
+use Rattle.numbers.proofs.Examples as numbers_examples
 use Rattle.trace.specs.declared.Operation.TheVariants.{Get, Insert, Remove, Clear, Peek}
 use Rattle.trace.specs.Reading.{reading_of, check_of}
 use Rattle.trace.specs.Steps.{step_of}
-use Rattle.trace.proofs.Examples as trace-examples
+use Rattle.trace.proofs.Examples as trace_examples
 use Rattle.rules.specs.Calls.{nowhere, Holds, Number, Made, Refused}
 use Rattle.rules.specs.Program.{bytes, place_text, texts_of}
 use Rattle.rules.specs.Decimal.{decimal}
@@ -17,11 +17,11 @@ use Rattle.rules.proofs.BenchShapes.{Row, ◌is◌, prints, reads, checks, opera
 
 -- P9, and its neighbours: crates/numbers/proofs/Examples
 abbrev pub number_rows : List Row
-number_rows = map (λ e. reads (page_of e.bytes) (frame_of e.bytes) is reads e.page e.frame) numbers-examples.examples
+number_rows = map (λ e. reads (page_of e.bytes) (frame_of e.bytes) is reads e.page e.frame) numbers_examples.examples
 
 -- the trace check and the cursor: crates/trace/proofs/Examples
 abbrev pub trace_rows : List Row
-trace_rows = map (λ e. checks (check_of e.bytes) (step_of e.at e.bytes) is checks e.checked e.step) trace-examples.examples
+trace_rows = map (λ e. checks (check_of e.bytes) (step_of e.at e.bytes) is checks e.checked e.step) trace_examples.examples
 
 abbrev pub byte_rows : List Row
 byte_rows =

@@ -8,9 +8,9 @@ ghost use Rattle.std.specs.Prelude.{◌≡◌, ◌+◌, ◌*◌, ◌<◌};
 ghost use Rattle.rings.specs.Rings.{members_of};
 ghost use Rattle.rings.specs.Walks.{ahead, behind};
 ghost use Rattle.tails.specs.Tails.{tail_of};
-ghost use Rattle.residents.specs.Residents.{count_of as residentCount, lists_of, IsResidents};
+ghost use Rattle.residents.specs.Residents.{count_of as resident_count, lists_of, IsResidents};
 ghost use Rattle.residents.specs.Tests.{residents_test};
-ghost use Rattle.ghosts.specs.Ghosts.{count_of as ghostCount, spare_of, ghosts_test};
+ghost use Rattle.ghosts.specs.Ghosts.{count_of as ghost_count, spare_of, ghosts_test};
 ghost use Rattle.lookup.specs.Buckets.{buckets_of, places_of};
 ghost use Rattle.lookup_check.specs.Check.{lookup_test};
 ghost use Rattle.area.specs.Area.{residents_in, ghosts_in, lookup_in, side_of, parts_of, Fit};
@@ -160,14 +160,14 @@ fn check_lists(area: &[u64], c: usize) -> bool
 // How many slots T1 or T2 has, and how many cells a ghost list.
 fn slots(area: &[u64], c: usize, i: usize) -> usize
     requires { Listed c area.now × (i < 2) }
-    ensures { Few (residentCount (residents_in c area.now) i) result }
+    ensures { Few (resident_count (residents_in c area.now) i) result }
 {
     area::resident_part::count(area, c, i)
 }
 
 fn cells(area: &[u64], c: usize, i: usize) -> usize
     requires { Listed c area.now × (i < 2) }
-    ensures { Few (ghostCount (ghosts_in (side_of i) c area.now)) result }
+    ensures { Few (ghost_count (ghosts_in (side_of i) c area.now)) result }
 {
     area::ghost_parts::count(area, c, i)
 }

@@ -13,7 +13,7 @@ use Rattle.rules.specs.Calls.{Place as RulesPlace, ghost, nowhere}
 use Rattle.rules.specs.Stages.{place_of}
 use Rattle.rules.specs.Car.{Resident as CarResident}
 use Rattle.lookup.specs.Buckets.{buckets_of, places_of}
-use Rattle.lookup.specs.Lookup.{Place, at, look, place_or, bucket_in, CanFind, none as noPlace}
+use Rattle.lookup.specs.Lookup.{Place, at, look, place_or, bucket_in, CanFind, none as no_place}
 use Rattle.lookup.proofs.Table.{held_below}
 use Rattle.lookup.proofs.Look.{look_held}
 use Rattle.area_state.specs.Parts.{Parts, Holds, ghost_place, resident_of, state_of}
@@ -47,7 +47,7 @@ module _ (c : ℕ) (p : Parts) (h : Holds c p) (x : ℕ) where
   place_low : (y : ℕ) → look p.lookup (places_of c) (buckets_of c) x ≡ at y → y < 3 * c
   place_low y e = held_below p.lookup (places_of c) (buckets_of c) (bucket_in p.lookup (places_of c)) h.table y (look_held p.lookup (places_of c) (buckets_of c) h.table x y e)
 
-  pub held_nowhere : resident x (state_of c p).lists ≡ none → place_of x (state_of c p).lists ≡ nowhere → look p.lookup (places_of c) (buckets_of c) x ≡ noPlace
+  pub held_nowhere : resident x (state_of c p).lists ≡ none → place_of x (state_of c p).lists ≡ nowhere → look p.lookup (places_of c) (buckets_of c) x ≡ no_place
   held_nowhere a b = go (look p.lookup (places_of c) (buckets_of c) x) refl
     where
       cell : (y : ℕ) → look p.lookup (places_of c) (buckets_of c) x ≡ at y → (i : Side) (g : ℕ) → g < c → y ≡ ghost_place i c g → ⊥
@@ -61,9 +61,9 @@ module _ (c : ℕ) (p : Parts) (h : Holds c p) (x : ℕ) where
       off y e true k = not_none (resident x (state_of c p).lists) (resident_of c p y) a (found_resident c p h x y e (ltb-true y c k))
       off y e false k = past y e (ltb-false y c k) (ltb y (2 * c)) refl
 
-      go : (z : Place) → look p.lookup (places_of c) (buckets_of c) x ≡ z → look p.lookup (places_of c) (buckets_of c) x ≡ noPlace
+      go : (z : Place) → look p.lookup (places_of c) (buckets_of c) x ≡ z → look p.lookup (places_of c) (buckets_of c) x ≡ no_place
       go (at y) e = absurd (off y e (ltb y c) refl)
-      go noPlace e = e
+      go no_place e = e
 
 module _ (c : ℕ) (w : List ℕ) (s : Stored c w) (x : ℕ) where
   pub may_look : Fit c w (CanFind (lookup_in c w) (places_of c) (buckets_of c) x)
@@ -78,15 +78,15 @@ module _ (c : ℕ) (w : List ℕ) (s : Stored c w) (x : ℕ) where
       where
         go : (z : Place) → look (lookup_in c w) (places_of c) (buckets_of c) x ≡ z → y ≡ place_or (places_of c) z → look (lookup_in c w) (places_of c) (buckets_of c) x ≡ at y
         go (at u) e k = e ∙ ap at (sym k)
-        go noPlace e k = absurd (let z : y ≡ 3 * c = k in let n : ⊥ = omega arith in n)
+        go no_place e k = absurd (let z : y ≡ 3 * c = k in let n : ⊥ = omega arith in n)
 
-    is_none : 3 * c ≤ y → look (parts_of c w).lookup (places_of c) (buckets_of c) x ≡ noPlace
+    is_none : 3 * c ≤ y → look (parts_of c w).lookup (places_of c) (buckets_of c) x ≡ no_place
     unfolding parts_of
     is_none h = go (look (lookup_in c w) (places_of c) (buckets_of c) x) refl q
       where
-        go : (z : Place) → look (lookup_in c w) (places_of c) (buckets_of c) x ≡ z → y ≡ place_or (places_of c) z → look (lookup_in c w) (places_of c) (buckets_of c) x ≡ noPlace
+        go : (z : Place) → look (lookup_in c w) (places_of c) (buckets_of c) x ≡ z → y ≡ place_or (places_of c) z → look (lookup_in c w) (places_of c) (buckets_of c) x ≡ no_place
         go (at u) e k = absurd (let z : y ≡ u = k in let l : u < 3 * c = place_low c (parts_of c w) s.holds x u e in let n : ⊥ = omega arith in n)
-        go noPlace e k = e
+        go no_place e k = e
 
     -- ---- what it says
     pub finds_slot : y < c → FoundIs c w x (Resident y)

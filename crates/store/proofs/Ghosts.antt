@@ -8,7 +8,7 @@ use lib.ListN.{length, length-map}
 use Rattle.rules.specs.State.{list, ghosts}
 use Rattle.cells.specs.Cells.{prev_of}
 use Rattle.rings.specs.Members.{Mem}
-use Rattle.residents.specs.Residents.{count_of as slotCount, lists_of}
+use Rattle.residents.specs.Residents.{count_of as slot_count, lists_of}
 use Rattle.ghosts.specs.Ghosts.{count_of, links_of, live_of, forgotten, CanForget}
 use Rattle.lookup.specs.Buckets.{places_of}
 use Rattle.lookup.specs.Changes.{taken, CanTake}
@@ -106,7 +106,7 @@ module _ (c : ℕ) (w : List ℕ) (i g : ℕ) (t : HasOldest c w i) (e : g ≡ p
 
 -- ---- the lengths
 module _ (c : ℕ) (w : List ℕ) (i r : ℕ) (s : Stored c w) (h : i < 2) where
-  pub listed_is_lem : r ≡ slotCount (residents_in c w) i → r ≡ length (list (side_of i) (state_in c w).lists)
+  pub listed_is_lem : r ≡ slot_count (residents_in c w) i → r ≡ length (list (side_of i) (state_in c w).lists)
   unfolding state_in parts_of
   listed_is_lem q =
       q

@@ -4,7 +4,7 @@
 #![tactic(auto)]
 ghost use Rattle.std.specs.Prelude.{◌≡◌, ◌+◌, ◌<◌, ◌≤◌, eqb, ltb, length, get_or};
 ghost use Rattle.rules.specs.State.{list, ghosts};
-ghost use Rattle.rules.specs.Car.{taken as slotTaken};
+ghost use Rattle.rules.specs.Car.{taken as slot_taken};
 ghost use Rattle.area_state.specs.States.{resident_at, framed_at, marked_at, aimed_at, fronted_at, ended_at, removed_at, evicted_at, forgot_at, entered_at_front, entered_at_end};
 ghost use Rattle.area_state.specs.Parts.{ghost_place};
 ghost use Rattle.area.specs.Area.{side_of};
@@ -118,7 +118,7 @@ pub fn next(area: &[u64], c: usize, e: usize) -> usize
 // Whether slot e holds a resident.
 pub fn taken(area: &[u64], c: usize, e: usize) -> bool
     requires { Stored c area.now × (e < c) }
-    ensures { result ≡ ltb 0 (slotTaken e (state_in c area.now).lists) }
+    ensures { result ≡ ltb 0 (slot_taken e (state_in c area.now).lists) }
 {
     if area::lookup_part::dead(area, c, e) {
         false

@@ -4,7 +4,7 @@ use mathlib.Core.Path.{◌≡◌, refl}
 use mathlib.Core.List.{List, [], ◌∷◌, ◌++◌, map}
 use Prim.Native.Nat.{ℕ, ◌-◌, ◌^◌}
 use lib.ListN.{replicate}
-use Rattle.numbers.specs.Reading.{read_from as readNumber}
+use Rattle.numbers.specs.Reading.{read_from as read_number}
 use Rattle.trace.specs.Reading.{operation_of, read_at, read_from, check_of}
 use Rattle.trace.specs.Steps.{step_at, step_of}
 use Rattle.trace.specs.declared.Operation.TheVariants.{Get, Insert, Remove, Clear, Peek}
@@ -48,5 +48,5 @@ examples =
     example (5 ∷ 0 ∷ 2 ∷ 9 ∷ 0x80 ∷ []) 1 5 2 0 2 (Read (Peek 0)) ∷ []
 
 pub all_right : map (λ e. record { bytes = e.bytes; checked = check_of e.bytes; at = e.at; step = step_of e.at e.bytes }) examples ≡ examples
-unfolding readNumber operation_of read_at read_from step_at
+unfolding read_number operation_of read_at read_from step_at
 all_right = refl

@@ -13,7 +13,7 @@ use Rattle.rings.specs.Rings.{inserted, detached, fronted, replaced, emptied, li
 use Rattle.tails.specs.Tails.{tail_of, with_tail}
 use Rattle.lookup.specs.Part.{in_links}
 use Rattle.lookup.specs.Changes.{unlinked, handed_over, deadened, cleared, blank, put_in, taken, renamed}
-use Rattle.lookup.specs.Changes.{made as madeLookup}
+use Rattle.lookup.specs.Changes.{made as made_lookup}
 use Rattle.ghosts.specs.Ghosts as ghosts
 use Rattle.residents.specs.Residents as residents
 use Rattle.residents.specs.Changes as changes
@@ -121,8 +121,8 @@ module _ {n : ℕ} {w : List ℕ} (h : Words n w) (m : ℕ) (low : m ≤ n) wher
       let v = words_set h y (get_or w x 0) (word_at h x) in
       words_tail v m _ low (words_handed_over (words_drop v m) x y hx hy)
 
-  pub words_made_lookup : (k : ℕ) → IsWord (m + k) → Words n (madeLookup m k w)
-  unfolding madeLookup in_links blank
+  pub words_made_lookup : (k : ℕ) → IsWord (m + k) → Words n (made_lookup m k w)
+  unfolding made_lookup in_links blank
   words_made_lookup k hk =
       words_tail h m _ low (words_cleared (words_deadened (words_drop h m) m (omega arith)) m k hk)
 

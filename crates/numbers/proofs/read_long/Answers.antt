@@ -1,4 +1,3 @@
-use Prim.Native.Nat.{◌-◌}
 use Rattle.numbers.proofs.Loop.{laws}
 use Rattle.numbers.proofs.read_long.Goals as goal
 
