@@ -2,6 +2,7 @@
 // the rules' number and values for each case. `Refused` is refusal 3: the area is not well formed for the policy. An
 // inner call never gives it.
 #![tactic(auto)]
+
 ghost use Rattle.std.specs.Prelude.{◌≡◌};
 ghost use Rattle.answers.specs.Answers.{place_is, place_of_list};
 

@@ -5,6 +5,7 @@
 // This crate alone knows how the two numbers lie in words. Whoever needs them calls these functions, and proves
 // by the laws of proofs/Laws.antt. What a cell may hold is the number of a cell of the same part.
 #![tactic(auto)]
+
 ghost use Rattle.std.specs.Prelude.{◌≡◌};
 ghost use Rattle.cells.specs.Cells.{In, next_of, prev_of, with_next, with_prev, CanLink};
 

@@ -1,6 +1,7 @@
 // What a program needs to read its input in pieces: the bytes of a piece that are not used up go to the front of the buffer, and the next
 // piece is read behind them.
 #![tactic(auto)]
+
 ghost use Rattle.input_buffer.specs.Pieces.{Within, Kept};
 
 // Moves the bytes `from` to `to` to the front, and answers how many they are.

@@ -7,6 +7,5 @@ pub mod Refusing
 pub mod ByRules
 pub mod Equal
 pub mod Laws
-pub mod Fields
 pub mod Finish
 pub mod Looping

@@ -1,6 +1,6 @@
 -- The laws of a lookup's part: pages and links. In order: the links after a change of a page, and of the links; the pages; lengths; the part
 -- that the code lends. Assumes nothing.
-use Rattle.std.proofs.Common.{◌≡◌, ℕ, ◌+◌, ◌-◌, ◌<◌, ◌≤◌, List, [], ◌++◌, length, take, drop, sym, ap, ◌∙◌, append-nil, arith, length-append, length-drop, length-take-le, get_or-take, drop-set-lt, drop_at}
+use Rattle.std.proofs.Common.{◌≡◌, ℕ, ◌-◌, ◌<◌, ◌≤◌, List, [], ◌++◌, length, take, drop, sym, ap, ◌∙◌, append-nil, arith, length-append, length-drop, length-take-le, get_or-take, drop-set-lt, drop_at}
 use lib.ListN.{get_or-append}
 use lib.Seq.{drop-length}
 use borrow.Author.Rules.{part_to_end}

@@ -1,5 +1,5 @@
 -- A place that leaves, and is dead. Assumes nothing.
-use Rattle.std.proofs.Common.{◌≡◌, ℕ, ◌+◌, ◌<◌, ◌⊎◌, List, length, ap, ◌∙◌, inr, ⊎_elim}
+use Rattle.std.proofs.Common.{◌≡◌, ℕ, ◌+◌, ◌<◌, List, length, ap, ◌∙◌, inr, ⊎_elim}
 use Rattle.cells.specs.Cells.{In, next_of, prev_of, with_prev}
 use Rattle.cells.proofs.Laws.{prev_same, prev_other, length_with_prev, in_length}
 use Rattle.rings.specs.Members.{Mem, without}

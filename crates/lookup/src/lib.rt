@@ -9,6 +9,7 @@
 // Callers know of `look` (specs/Lookup.antt) and of the laws of proofs/Look.antt: that it is a plain search of the
 // places held. No answer shows a bucket.
 #![tactic(auto)]
+
 ghost use Rattle.std.specs.Prelude.{◌≡◌, ◌+◌, ◌*◌, ◌<◌, ◌≤◌, length, ◌==◌};
 ghost use Rattle.cells.specs.Cells.{In, next_of, prev_of};
 ghost use Rattle.rings.specs.Rings.{CanDetach, CanReplace};

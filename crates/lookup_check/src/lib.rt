@@ -16,6 +16,7 @@
 // more steps); buckets of two places without a branch too (more steps than the mispredictions saved); the longer
 // buckets put aside and walked after the others (6 % faster where lengths are random, slower elsewhere). D67.
 #![tactic(auto)]
+
 ghost use Rattle.std.specs.Prelude.{◌≡◌, ◌≤◌};
 ghost use Rattle.lookup.specs.Part.{Room};
 ghost use Rattle.lookup_check.specs.Check.{walk_from, walk_of, lookup_test, shown_page, places_at, alone_test, CanWalk, CanPass, CanGoOn};

@@ -5,6 +5,7 @@
 // A change is stated as a function of the words (specs/Rings.antt). What it means for the rings is said by the laws:
 // for one ring and for another beside it in proofs/Ring.antt and Moves.antt, for a family of rings in Family.antt.
 #![tactic(auto)]
+
 ghost use Rattle.std.specs.Prelude.{◌≡◌};
 ghost use Rattle.cells.specs.Cells.{In};
 ghost use Rattle.rings.specs.Rings.{placed, inserted, detached, fronted, ended, replaced, emptied, linked, filled, CanPlace, CanInsert, CanDetach, CanFront, CanEnd, CanReplace, CanFill};

@@ -1,6 +1,7 @@
 // Cells and rings in the words of a part from word a on. A part keeps other words (counts, arrays) before its links, and each of
 // these functions lends the links alone to `cells` or `rings`: the words before a stay as they were.
 #![tactic(auto)]
+
 ghost use Rattle.std.specs.Prelude.{◌≡◌};
 ghost use Rattle.cells.specs.Cells.{In, next_of, prev_of, with_prev, CanLink};
 ghost use Rattle.rings.specs.Rings.{inserted, detached, fronted, ended, replaced, emptied, filled, CanInsert, CanDetach, CanFront, CanEnd, CanReplace, CanFill};

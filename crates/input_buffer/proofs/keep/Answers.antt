@@ -1,4 +1,3 @@
-use Prim.Native.Nat.{◌-◌}
 use Rattle.input_buffer.proofs.Laws.{laws}
 use Rattle.input_buffer.proofs.keep.Goals as goal
 

@@ -1,4 +1,3 @@
-use Rattle.std.proofs.Common.{◌-◌}
 use Rattle.lookup.proofs.Needs.{looping}
 use Rattle.lookup.proofs.deaden.Goals as goal
 

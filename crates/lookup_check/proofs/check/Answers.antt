@@ -1,4 +1,3 @@
-use Prim.Native.Nat.{◌-◌}
 use Rattle.lookup_check.proofs.Checking.{check_alone, check_laws}
 use Rattle.lookup_check.proofs.check.Goals as goal
 

@@ -1,4 +1,3 @@
-use Prim.Native.Nat.{◌-◌}
 use Rattle.rings.proofs.Filling.{laws}
 use Rattle.rings.proofs.fill.Goals as goal
 

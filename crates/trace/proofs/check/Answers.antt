@@ -1,4 +1,3 @@
-use Prim.Native.Nat.{◌-◌}
 use Rattle.trace.proofs.Checks.{laws}
 use Rattle.trace.proofs.check.Goals as goal
 

@@ -1,3 +1,0 @@
--- The laws of `lent`. Assumes nothing.
-pub mod Sevens
-pub mod Counting
