@@ -92,11 +92,17 @@ def called(name):
 
 def program(*names):
     """Proves and builds programs where that is needed (tools/programs.sh); the words that run each."""
-    ask = '. "$1/tools/programs.sh"; need rt; shift; program "$@" && printf "%s\\n" "${RUN[@]}"'
-    built = subprocess.run(['bash', '-c', ask, NAME, ROOT, *names], stdout=subprocess.PIPE, text=True)
-    if built.returncode:
+    ask = '. "$1/tools/programs.sh"; need rt; shift; program "$@"'
+    if subprocess.run(['bash', '-c', ask, NAME, ROOT, *names]).returncode:
         sys.exit(2)
-    return [built.stdout.split('\n')[:-1] + [os.path.join(ROOT, 'target', 'bin', name)] for name in names]
+    return [[os.path.join(ROOT, 'crates', name, 'out', name)] for name in names]
+
+
+def listed():
+    """The crates of the repository in the order of crates.txt, each with those that it names itself."""
+    with open(os.path.join(ROOT, 'crates.txt'), encoding='utf-8') as f:
+        rows = [line.split('#')[0].partition(':') for line in f]
+    return {head.split()[0]: rest.split() for head, colon, rest in rows if colon}
 
 
 def say(text):
