@@ -7,6 +7,7 @@ import argparse
 import os
 import random
 import re
+import shutil
 import subprocess
 import sys
 import traceback
@@ -103,6 +104,32 @@ def listed():
     with open(os.path.join(ROOT, 'crates.txt'), encoding='utf-8') as f:
         rows = [line.split('#')[0].partition(':') for line in f]
     return {head.split()[0]: rest.split() for head, colon, rest in rows if colon}
+
+
+def below(name):
+    """The crates of the repository that a crate is made of, itself last."""
+    known, found = listed(), []
+
+    def visit(one):
+        if one in known and one not in found:
+            for other in known[one]:
+                visit(other)
+            found.append(one)
+
+    visit(name)
+    return found
+
+
+def copied(name, folder):
+    """Copies a crate and those that it is made of into an empty folder, with a crates.txt of their own."""
+    os.mkdir(os.path.join(folder, 'crates'))
+    for one in below(name):
+        shutil.copytree(os.path.join(ROOT, 'crates', one), os.path.join(folder, 'crates', one),
+                        ignore=lambda at, names: {'out'} & set(names))
+    with open(os.path.join(ROOT, 'crates.txt'), encoding='utf-8') as f:
+        rows = [line for line in f if (line.split('#')[0].partition(':')[0].split() or [''])[0] in below(name)]
+    with open(os.path.join(folder, 'crates.txt'), 'w', encoding='utf-8') as f:
+        f.writelines(rows)
 
 
 def say(text):
