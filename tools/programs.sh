@@ -7,7 +7,7 @@
 #   find_cc             sets the array cc: the words of CC, or cc, or gcc
 #   program NAME..      proves, compiles and links programs (crates/NAME/out/NAME), and says how far it is
 #   archive_of NAME OUT proves a static library and copies its archive to OUT
-#   older FILE NAME     FILE has to be made again from the crates of NAME
+#   current FILE NAME   FILE need not be made again from the crates of NAME
 #   kit, tools          (after `need rt`) the kit's folder, and the one of its clang, linker and C library
 root=$(cd "$(dirname "$(readlink -f "${BASH_SOURCE[0]}")")/.." && pwd -P)
 me=$(readlink -f "$0" || true)
@@ -103,16 +103,40 @@ crates_of() { # NAME
         END { visit(program) }'
 }
 
-# older FILE NAME: FILE is not there, or a file of the crates that NAME is made of has changed since, as the clock tells
-older() {
-    local name part parts=(../crates.txt)
-    if [ ! -f "$1" ]; then return 0; fi
-    for name in $(crates_of "$2"); do
+# The files that a program or an archive of these crates is made from.
+parts_of() { # NAME
+    local name part
+    echo ../crates.txt
+    for name in $(crates_of "$1"); do
         for part in src specs proofs; do
-            if [ -d "$root/crates/$name/$part" ]; then parts+=("$name/$part"); fi
+            if [ -d "$root/crates/$name/$part" ]; then echo "$name/$part"; fi
         done
     done
-    [ -n "$(cd "$root/crates" && find "${parts[@]}" -newer "$1" -print -quit)" ]
+}
+
+# A sum of these files.
+sum_of() { # NAME
+    # shellcheck disable=SC2046
+    (cd "$root/crates" && find $(parts_of "$1") -type f -print0 | LC_ALL=C sort -z | xargs -0 sha256sum | sha256sum)
+}
+
+# current FILE NAME: FILE was made of the crates of NAME as they are: none of their files is newer, or they are the same,
+# by their sum, as when it was made.
+current() {
+    local note=$root/target/log/made-${1##*/}
+    if [ ! -f "$1" ]; then return 1; fi
+    # shellcheck disable=SC2046
+    if [ -z "$(cd "$root/crates" && find $(parts_of "$2") -newer "$1" -print -quit)" ]; then
+        if [ ! "$note" -nt "$1" ]; then made "$1" "$(sum_of "$2")"; fi
+        return 0
+    fi
+    [ -f "$note" ] && [ "$(cat "$note")" = "$(sum_of "$2") $(sha256sum <"$1")" ]
+}
+
+# made FILE SUM: notes that FILE was made of the crates that have this sum
+made() {
+    mkdir -p "$root/target/log"
+    echo "$2 $(sha256sum <"$1")" >"$root/target/log/made-${1##*/}"
 }
 
 # Reads what `rt` says, and says how far it is: the crates proved of all, and the time so far.
@@ -135,37 +159,41 @@ progress() { # HOW-MANY
     if [ "$shown" = yes ] && [ -t 2 ]; then echo >&2; fi
 }
 
-# The programs that are missing or older than their crates, by `rt run`, which also runs each: on no input, and what it
-# writes is dropped. `rt ci` leaves what it built in the same place.
+# The programs that are missing or not current, by `rt run`, which also runs each: on no input, and what it writes is
+# dropped. `rt ci` leaves what it built in the same place.
 program() { # NAME..
-    local name log made
+    local name file log sum
     mkdir -p "$root/target/log"
     for name; do
-        made=$root/crates/$name/out/$name log=$root/target/log/build-$name.log
-        if [ -x "$made" ] && ! older "$made" "$name"; then continue; fi
-        if [ ! -x "$made" ]; then
+        file=$root/crates/$name/out/$name log=$root/target/log/build-$name.log
+        if current "$file" "$name"; then continue; fi
+        if [ ! -x "$file" ]; then
             echo "$me: proving and building $name; where none of its crates is proved yet that takes minutes" >&2
         fi
         touch "$log.began"
+        sum=$(sum_of "$name")
         { (cd "$root/crates/$name" && rt run </dev/null 2>&1 >/dev/null) || true; } | tee "$log" |
             progress "$(crates_of "$name" | wc -l)"
-        if [ ! -x "$made" ] || ! grep -q "^rt: running out/$name;" "$log"; then
+        if [ ! -x "$file" ] || ! grep -q "^rt: running out/$name;" "$log"; then
             tail -n 20 "$log" >&2
             echo "$me: $name cannot be built; $log has all that was said" >&2
             return 2
         fi
-        touch -r "$log.began" "$made"
+        touch -r "$log.began" "$file"
+        made "$file" "$sum"
     done
 }
 
-# The archive of a static library, by `rt lib`, where it is missing or older than its crates.
+# The archive of a static library, by `rt lib`, where it is missing or not current.
 archive_of() { # NAME OUT
-    local made=$root/crates/$1/out/lib$1.a log=$root/target/log/build-$1.log
-    if ! older "$2" "$1"; then return 0; fi
+    local own=$root/crates/$1/out/lib$1.a log=$root/target/log/build-$1.log sum
+    if current "$2" "$1"; then return 0; fi
     mkdir -p "$root/target/log" "$(dirname "$2")"
-    rm -f "$made" "$2"
+    rm -f "$own" "$2"
     touch "$log.began"
+    sum=$(sum_of "$1")
     (cd "$root/crates/$1" && rt lib </dev/null) >"$log" 2>&1 || { tail -n 20 "$log" >&2; return 2; }
-    cp "$made" "$2"
+    cp "$own" "$2"
     touch -r "$log.began" "$2"
+    made "$2" "$sum"
 }
