@@ -1,13 +1,10 @@
-# Sourced by the scripts here and in bench/: how a C program is built over the archive of the trace check, and how it
-# is run. Sources tools/programs.sh, and defines
-#   host_kit             looks for the kit and a compiler, and sets RUN and with
-#   archive              proves the trace check and writes target/staticlib/libtrace.a
+# Sourced by the scripts here and in bench/: how a C program is built over the archive of the trace check. Sources
+# tools/programs.sh, and defines
+#   host_kit             looks for the kit and a compiler, and sets with
+#   archive              proves the trace check (crates/trace_c) and writes target/staticlib/libtrace.a
 #   build_c OUT FILE..   compiles C files and links them with that archive
-#   RUN                  the words in front of a program that build_c made; empty where it runs by itself
-#   with                 cc or kit: the machine's own compiler, or the kit's compiler, linker, C library and, on Arm,
-#                        its emulator, which need no package
-# HOST_WITH=kit or HOST_WITH=cc chooses; else it is cc on x86-64 where there is one. CC names another compiler than cc or
-# gcc.
+#   with                 cc or kit: the machine's own compiler, or the kit's compiler and linker, which need no package
+# HOST_WITH=kit or HOST_WITH=cc chooses; else it is cc where there is one. CC names another compiler than cc or gcc.
 . "$(dirname "$(readlink -f "${BASH_SOURCE[0]}")")/../tools/programs.sh"
 
 host_kit() {
@@ -15,22 +12,17 @@ host_kit() {
     with=${HOST_WITH:-}
     if [ -z "$with" ]; then
         with=kit
-        if [ "$(uname -m)" = x86_64 ] && find_cc; then with=cc; fi
+        if find_cc; then with=cc; fi
     fi
     case $with in
-    cc) need cc; RUN=() ;;
+    cc) need cc ;;
     kit) cc=("$tools/bin/clang") ;;
     *) unable "HOST_WITH is cc or kit, and not ${with:0:40}" ;;
     esac
 }
 
-# The archive, proved and written anew where a file of the crates is newer than it.
-archive() {
-    local made=$root/target/staticlib/libtrace.a log=$root/target/host/staticlib.log
-    mkdir -p "$root/target/host"
-    if ! older "$made" trace; then return 0; fi
-    (cd "$root" && rt staticlib trace) >"$log" 2>&1 || { cat "$log" >&2; return 2; }
-}
+# The archive, proved and written anew where a file of the crates is newer than it. C callers know it as libtrace.a.
+archive() { archive_of trace_c "$root/target/staticlib/libtrace.a"; }
 
 warn=(-std=c99 -Wall -Wextra -Wpedantic -Werror)
 
@@ -57,6 +49,6 @@ build_c() { # OUT FILE..
         *) objects+=("$file") ;;
         esac
     done
-    "$own/bin/rattle-link" --target x86_64-unknown-linux-gnu --toolchain "$tools" -o "$out" "${objects[@]}" \
+    "$kit/bin/rattle-link" --target x86_64-unknown-linux-gnu --toolchain "$tools" -o "$out" "${objects[@]}" \
         "$root/target/staticlib/libtrace.a" >"$out.link.log" 2>&1 || { cat "$out.link.log" >&2; return 1; }
 }

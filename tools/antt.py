@@ -8,7 +8,7 @@ import re
 
 ROOT = os.path.dirname(os.path.dirname(os.path.abspath(__file__)))
 CRATES = ('numbers', 'trace', 'rules')
-PATH = r'Rattle·(%s)(?:·\w+)?\.(specs|proofs)\.(\w+)' % '|'.join(CRATES)
+PATH = r'Rattle\.(%s)\.(specs|proofs)\.(\w+)' % '|'.join(CRATES)
 TOKEN = re.compile(r'"(?:[^"\\]|\\.)*"|[(){};,]|[^\s(){};,"]+')
 
 # the operators, those that bind least first
@@ -17,7 +17,8 @@ OPERATORS = {op for level in LEVELS for op in level}
 RIGHT = (',', '||', '&&', '∷', '++')
 
 # functions of the libraries
-LIBRARY = {'take': 'ℕ L L', 'drop': 'ℕ L L', 'min': 'ℕ ℕ ℕ', 'suc': 'ℕ ℕ', 'length': 'L ℕ', 'getD': 'L ℕ ℕ ℕ'}
+LIBRARY = {'take': 'ℕ L L', 'drop': 'ℕ L L', 'min': 'ℕ ℕ ℕ', 'suc': 'ℕ ℕ', 'length': 'L ℕ',
+           'get_or': 'L ℕ ℕ ℕ'}
 
 
 def content(path):
@@ -52,14 +53,23 @@ class Node:
 
 
 class Parser:
-    def __init__(self, text, start):
+    """`named` are the modules that a name can begin with, as `Arc.does`; any other dot inside a word takes a field."""
+
+    def __init__(self, text, start, named=()):
         self.text, self.at, self.tokens = text, 0, []
         for m in TOKEN.finditer(text, start):
             word, at = m[0], m.start()
-            if len(word) > 1 and word.endswith('.'):     # the variable of a λ
+            if word[0] == '"':
+                self.tokens.append((word, at))
+            elif len(word) > 1 and word.endswith('.'):     # the variable of a λ
                 self.tokens += [(word[:-1], at), ('.', m.end() - 1)]
             else:
-                self.tokens.append((word, at))
+                first, *fields = re.findall(r'\.?[^.]+|\.', word)
+                if fields and first in named:
+                    first += fields.pop(0)
+                for part in (first, *fields):
+                    self.tokens.append((part, at))
+                    at += len(part)
 
     def peek(self):
         return self.tokens[self.at][0] if self.at < len(self.tokens) else None
@@ -120,14 +130,18 @@ class Parser:
             if word in ('λ', 'let'):
                 parts.append(self.expression())
                 return joined()
-            if word.startswith('.'):
-                _, at = self.take()
-                inner = joined()
-                parts = [Node('field', inner.start, at + len(word), [inner], word[1:])]
-            else:
-                parts.append(self.atom())
+            parts.append(self.atom())
 
     def atom(self):
+        node = self.plain()
+        while (self.peek() or '').startswith('.') and self.peek() != '.':
+            word, at = self.take()
+            if at != node.end:
+                raise ValueError('a field that stands apart, %r, in %r' % (word, self.text))
+            node = Node('field', node.start, at + len(word), [node], word[1:])
+        return node
+
+    def plain(self):
         word, start = self.take()
         if word == '(':
             inner = self.expression()
@@ -178,11 +192,11 @@ def element(kind, of):
 class Clause:
     """A clause: where it starts in its file, its text, its patterns and its right side."""
 
-    def __init__(self, start, text):
+    def __init__(self, start, text, named=()):
         self.start, self.text = start, text
         head = re.search(r'(?<=\s)=(?=\s)', text).start()
         self.patterns = groups(TOKEN.findall(text[:head])[1:])
-        self.body = Parser(text, head + 1).whole()
+        self.body = Parser(text, head + 1, named).whole()
 
     def left(self):
         return self.text[:self.body.start]
@@ -211,11 +225,13 @@ class Module:
         self.key = (crate, folder, name)
         self.path = 'crates/%s/%s/%s.antt' % self.key
         self.text = content(self.path) if text is None else text
-        self.definitions, self.imports, self.uses = {}, {}, set()
-        for m in re.finditer(r'^use (\S+?)(?:\.\{(.*)\})?(?: as \S+)?$', self.text, re.M):
+        self.definitions, self.imports, self.uses, self.named = {}, {}, set(), set()
+        for m in re.finditer(r'^use (\S+?)(?:\.\{(.*)\})?(?: as (\S+))?$', self.text, re.M):
             where = re.fullmatch(PATH, m[1])
             if where and where[3] != 'declared':
                 self.uses.add(where.groups())
+            if m[2] is None:
+                self.named.add(m[3] or m[1].rpartition('.')[2])
             for item in (m[2] or '').split(', '):
                 original, _, alias = item.partition(' as ')
                 self.imports[alias or original] = (m[1], original)
@@ -247,7 +263,7 @@ class Module:
             if current is None or text.split()[0] != current.name:
                 raise ValueError('%s: what does this line belong to? %s' % (self.path, line))
             if not current.types[-1].startswith('Type'):
-                current.clauses.append(Clause(start + pad, text))
+                current.clauses.append(Clause(start + pad, text, self.named))
 
 
 class Definitions:
@@ -258,7 +274,7 @@ class Definitions:
 
     def __init__(self, table):
         self.modules, self.records, self.source = {}, [], ''
-        self.kinds = [('mathlib.Core.Bool', {'true': [], 'false': []})]
+        self.kinds = [(home, {'true': [], 'false': []}) for home in ('Rattle.std.specs.Prelude', 'mathlib.Core.Bool')]
         todo = [table]
         for crate in CRATES:
             names = sorted(os.listdir(os.path.join(ROOT, 'crates', crate, 'specs')))
@@ -290,7 +306,7 @@ class Definitions:
             return ['ℕ' if re.fullmatch(r'u\d+|usize', t) else t for t in named]
 
         for m in re.finditer(r'^pub (enum|struct) (\w+) \{\n(.*?)^\}\n', text, re.M | re.S):
-            self.source += m[0]
+            self.source += '#[derive(Clone, Copy)]\n' + m[0]
             if m[1] == 'struct':
                 self.records.append({n: types(t)[0] for n, t in re.findall(r'^    pub (\w+): (.*),$', m[3], re.M)})
             else:
@@ -318,7 +334,7 @@ class Definitions:
         if name in module.definitions:
             return None
         where, original = module.imports.get(name, ('', name))
-        path, enum = re.fullmatch(PATH, where), re.search(r'declared\.(\w+)\.the-variants$', where)
+        path, enum = re.fullmatch(PATH, where), re.search(r'declared\.(\w+)\.TheVariants$', where)
         place = path.groups() if path else enum[1] if enum else where or module.key
         return next(((kind, original) for home, kind in self.kinds if home == place and original in kind), None)
 

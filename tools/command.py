@@ -7,6 +7,7 @@ import argparse
 import os
 import random
 import re
+import shutil
 import subprocess
 import sys
 import traceback
@@ -92,11 +93,43 @@ def called(name):
 
 def program(*names):
     """Proves and builds programs where that is needed (tools/programs.sh); the words that run each."""
-    ask = '. "$1/tools/programs.sh"; need rt; shift; program "$@" && printf "%s\\n" "${RUN[@]}"'
-    built = subprocess.run(['bash', '-c', ask, NAME, ROOT, *names], stdout=subprocess.PIPE, text=True)
-    if built.returncode:
+    ask = '. "$1/tools/programs.sh"; need rt; shift; program "$@"'
+    if subprocess.run(['bash', '-c', ask, NAME, ROOT, *names]).returncode:
         sys.exit(2)
-    return [built.stdout.split('\n')[:-1] + [os.path.join(ROOT, 'target', 'bin', name)] for name in names]
+    return [[os.path.join(ROOT, 'crates', name, 'out', name)] for name in names]
+
+
+def listed():
+    """The crates of the repository in the order of crates.txt, each with those that it names itself."""
+    with open(os.path.join(ROOT, 'crates.txt'), encoding='utf-8') as f:
+        rows = [line.split('#')[0].partition(':') for line in f]
+    return {head.split()[0]: rest.split() for head, colon, rest in rows if colon}
+
+
+def below(name):
+    """The crates of the repository that a crate is made of, itself last."""
+    known, found = listed(), []
+
+    def visit(one):
+        if one in known and one not in found:
+            for other in known[one]:
+                visit(other)
+            found.append(one)
+
+    visit(name)
+    return found
+
+
+def copied(name, folder):
+    """Copies a crate and those that it is made of into an empty folder, with a crates.txt of their own."""
+    os.mkdir(os.path.join(folder, 'crates'))
+    for one in below(name):
+        shutil.copytree(os.path.join(ROOT, 'crates', one), os.path.join(folder, 'crates', one),
+                        ignore=lambda at, names: {'out'} & set(names))
+    with open(os.path.join(ROOT, 'crates.txt'), encoding='utf-8') as f:
+        rows = [line for line in f if (line.split('#')[0].partition(':')[0].split() or [''])[0] in below(name)]
+    with open(os.path.join(folder, 'crates.txt'), 'w', encoding='utf-8') as f:
+        f.writelines(rows)
 
 
 def say(text):

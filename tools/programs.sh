@@ -5,10 +5,10 @@
 #   takes LEAST MOST "$@"   --help prints the command's head; an option, or too few or too many words, are refused
 #   need NAME..         what the command needs is there: rt, python3, cargo, cc, valgrind
 #   find_cc             sets the array cc: the words of CC, or cc, or gcc
-#   program NAME..      proves, compiles and links programs (target/bin/NAME), and says how far it is
-#   older FILE NAME     FILE has to be made again from the crates of NAME
-#   RUN                 (after `need rt`) the words in front of target/bin/NAME: the kit's emulator, if it has one, its
-#                       loader and its C library
+#   program NAME..      proves, compiles and links programs (crates/NAME/out/NAME), and says how far it is
+#   archive_of NAME OUT proves a static library and copies its archive to OUT
+#   current FILE NAME   FILE need not be made again from the crates of NAME
+#   kit, tools          (after `need rt`) the kit's folder, and the one of its clang, linker and C library
 root=$(cd "$(dirname "$(readlink -f "${BASH_SOURCE[0]}")")/.." && pwd -P)
 me=$(readlink -f "$0" || true)
 me=${COMMAND:-${me#"$root"/}}
@@ -68,11 +68,8 @@ need() {
         rt)
             command -v rt >/dev/null ||
                 unable "rt is missing: install the Rattle kit and put its bin folder on the PATH"
-            kit=${RATTLE_HOME:-$(cd "$(dirname "$(readlink -f "$(command -v rt)")")/.." && pwd -P)}
-            own=$kit/on/$(uname -m)
-            tools=$own/toolchain
-            RUN=("$tools/lib/ld-linux-x86-64.so.2" --library-path "$tools/lib")
-            if [ -x "$tools/bin/qemu-x86_64" ]; then RUN=("$tools/bin/qemu-x86_64" "${RUN[@]}"); fi
+            kit=$(cd "$(dirname "$(readlink -f "$(command -v rt)")")/.." && pwd -P)
+            tools=$kit/toolchain
             ;;
         python3)
             command -v python3 >/dev/null ||
@@ -102,30 +99,59 @@ crates_of() { # NAME
             for (i = 1; i <= many; i++) visit(below[i])
             print name
         }
-        NF > 1 { lists[$1] = $2 }
+        NF > 1 { split($1, head, " "); lists[head[1]] = $2 }
         END { visit(program) }'
 }
 
-# older FILE NAME: FILE is not there, or a file of the crates that NAME is made of has changed since, as the clock tells
-older() {
-    # shellcheck disable=SC2046
-    [ ! -f "$1" ] || [ -n "$(cd "$root/crates" && find ../crates.txt $(crates_of "$2") -newer "$1" -print -quit)" ]
+# The files that a program or an archive of these crates is made from.
+parts_of() { # NAME
+    local name part
+    echo ../crates.txt
+    for name in $(crates_of "$1"); do
+        for part in src specs proofs; do
+            if [ -d "$root/crates/$name/$part" ]; then echo "$name/$part"; fi
+        done
+    done
 }
 
-# Reads what `rt check` says, and says how far it is: the crates proved of all, and the time so far.
+# A sum of these files.
+sum_of() { # NAME
+    # shellcheck disable=SC2046
+    (cd "$root/crates" && find $(parts_of "$1") -type f -print0 | LC_ALL=C sort -z | xargs -0 sha256sum | sha256sum)
+}
+
+# current FILE NAME: FILE was made of the crates of NAME as they are: none of their files is newer, or they are the same,
+# by their sum, as when it was made.
+current() {
+    local note=$root/target/log/made-${1##*/}
+    if [ ! -f "$1" ]; then return 1; fi
+    # shellcheck disable=SC2046
+    if [ -z "$(cd "$root/crates" && find $(parts_of "$2") -newer "$1" -print -quit)" ]; then
+        if [ ! "$note" -nt "$1" ]; then made "$1" "$(sum_of "$2")"; fi
+        return 0
+    fi
+    [ -f "$note" ] && [ "$(cat "$note")" = "$(sum_of "$2") $(sha256sum <"$1")" ]
+}
+
+# made FILE SUM: notes that FILE was made of the crates that have this sum
+made() {
+    mkdir -p "$root/target/log"
+    echo "$2 $(sha256sum <"$1")" >"$root/target/log/made-${1##*/}"
+}
+
+# Reads what `rt` says, and says how far it is: the crates proved of all, and the time so far.
 progress() { # HOW-MANY
     local all=$1 done=0 line began=$SECONDS took shown=no
     while IFS= read -r line; do
         case $line in
-        'rt: '*' proved ('*)
+        'crate '*': modules loaded='*)
             done=$((done + 1))
-            case $line in *'(unchanged since'*) continue ;; esac
             took=$((SECONDS - began))
             shown=yes
-            line=${line#rt: }
+            line=${line#crate }
             if [ -t 2 ]; then printf '\r\033[K' >&2; fi
-            printf '%s: %d of %d crates proved, %d:%02d so far (%s)' "$me" "$done" "$all" \
-                $((took / 60)) $((took % 60)) "${line%% *}" >&2
+            printf '%s: %d of at most %d crates proved, %d:%02d so far (%s)' "$me" "$done" "$all" \
+                $((took / 60)) $((took % 60)) "${line%%:*}" >&2
             if [ ! -t 2 ]; then echo >&2; fi
             ;;
         esac
@@ -133,26 +159,41 @@ progress() { # HOW-MANY
     if [ "$shown" = yes ] && [ -t 2 ]; then echo >&2; fi
 }
 
+# The programs that are missing or not current, by `rt run`, which also runs each: on no input, and what it writes is
+# dropped. `rt ci` leaves what it built in the same place.
 program() { # NAME..
-    local name log stale=() all
-    for name; do
-        if [ ! -x "$root/target/bin/$name" ] || older "$root/target/log/made-$name" "$name"; then stale+=("$name"); fi
-    done
-    if [ ${#stale[@]} = 0 ]; then return 0; fi
+    local name file log sum
     mkdir -p "$root/target/log"
-    all=$(for name in "${stale[@]}"; do crates_of "$name"; done | sort -u | wc -l)
-    for name in "${stale[@]}"; do
-        if [ -x "$root/target/bin/$name" ]; then continue; fi
-        rm -f "$root/target/stamp/$name" # rt takes it for made, and it is not there
-        echo "$me: proving and building $name; where none of its crates is proved yet that takes minutes" >&2
+    for name; do
+        file=$root/crates/$name/out/$name log=$root/target/log/build-$name.log
+        if current "$file" "$name"; then continue; fi
+        if [ ! -x "$file" ]; then
+            echo "$me: proving and building $name; where none of its crates is proved yet that takes minutes" >&2
+        fi
+        touch "$log.began"
+        sum=$(sum_of "$name")
+        { (cd "$root/crates/$name" && rt run </dev/null 2>&1 >/dev/null) || true; } | tee "$log" |
+            progress "$(crates_of "$name" | wc -l)"
+        if [ ! -x "$file" ] || ! grep -q "^rt: running out/$name;" "$log"; then
+            tail -n 20 "$log" >&2
+            echo "$me: $name cannot be built; $log has all that was said" >&2
+            return 2
+        fi
+        touch -r "$log.began" "$file"
+        made "$file" "$sum"
     done
-    log=$root/target/log/build-$1.log
+}
+
+# The archive of a static library, by `rt lib`, where it is missing or not current.
+archive_of() { # NAME OUT
+    local own=$root/crates/$1/out/lib$1.a log=$root/target/log/build-$1.log sum
+    if current "$2" "$1"; then return 0; fi
+    mkdir -p "$root/target/log" "$(dirname "$2")"
+    rm -f "$own" "$2"
     touch "$log.began"
-    (cd "$root" && rt check "${stale[@]}" 2>&1; echo "status $?") | tee "$log" | progress "$all"
-    if [ "$(tail -n 1 "$log")" != "status 0" ]; then
-        tail -n 20 "$log" >&2
-        echo "$me: ${stale[*]} cannot be built; $log has all that was said" >&2
-        return 2
-    fi
-    for name in "${stale[@]}"; do touch -r "$log.began" "$root/target/log/made-$name"; done
+    sum=$(sum_of "$1")
+    (cd "$root/crates/$1" && rt lib </dev/null) >"$log" 2>&1 || { tail -n 20 "$log" >&2; return 2; }
+    cp "$own" "$2"
+    touch -r "$log.began" "$2"
+    made "$2" "$sum"
 }
