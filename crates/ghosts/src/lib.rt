@@ -5,6 +5,7 @@
 // The cells of the list, newest first, are one ring; the cells that are free are another. Pages stand elsewhere: whoever calls
 // keeps the page of each cell. How a change of the words changes the two lists is said by the laws of proofs/Laws.antt.
 #![tactic(auto)]
+
 ghost use Rattle.std.specs.Prelude.{◌≡◌};
 ghost use Rattle.cells.specs.Cells.{prev_of};
 ghost use Rattle.ghosts.specs.Ghosts.{Room, Counted, count_of, links_of, CanRecord, CanForget, record_cell, Recorded, forgotten, made, ghosts_test};

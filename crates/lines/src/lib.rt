@@ -2,6 +2,7 @@
 // what it wrote; the bytes before and behind the text stay. A caller that has room for `line_room` bytes has room for
 // any line.
 #![tactic(auto)]
+
 ghost use Rattle.std.specs.Prelude.{◌++◌};
 ghost use Rattle.rules.specs.Calls.{New, out as victim, Finished, Stopped};
 ghost use Rattle.rules.specs.Decimal.{decimal};

@@ -1,6 +1,6 @@
 -- What each change leaves of the words of the slots, and the change of one such word. Assumes nothing.
 use mathlib.Core.Path.{◌≡◌, ◌∙◌}
-use mathlib.Core.Logic.{◌⊎◌, ⊎_elim}
+use mathlib.Core.Logic.{⊎_elim}
 use mathlib.Core.List.{List}
 use Prim.Native.Nat.{ℕ, ◌+◌, ◌*◌, ◌^◌, ◌<◌, ◌≤◌}
 use native.Mathlib.Omega.{arith}

@@ -7,6 +7,7 @@
 // elsewhere: whoever calls keeps the page of each slot. How a change of the words changes the three lists is said by
 // the laws of proofs/Moves.antt.
 #![tactic(auto)]
+
 ghost use Rattle.std.specs.Prelude.{◌≡◌, ◌+◌, ◌*◌, ◌<◌};
 ghost use Rattle.tails.specs.Tails.{with_tail};
 ghost use Rattle.cells.specs.Cells.{next_of, prev_of};

@@ -1,4 +1,3 @@
-use Prim.Native.Nat.{◌-◌}
 use Rattle.lines.proofs.Laws.{laws}
 use Rattle.lines.proofs.put_word.Goals as goal
 
