@@ -1,10 +1,13 @@
 // README.md's example: a cache of 2 frames by ARC, and the page faults of a small system with 3 frames. One frame
 // holds nothing: the next page is read into it, and the frame of the page that has to go holds nothing then.
 #![tactic(auto)]
+
 use answers::{Got, Inserted};
 use arc_core::ArcCore;
 use empty_cache::Made;
-use libc::STDOUT_FILENO;
+
+// The file descriptor of standard output.
+const STDOUT_FILENO: i32 = 1;
 
 // A line: two words, and a number after each.
 fn say(what: &[u8], page: u64, how: &[u8], frame: u32) {

@@ -10,13 +10,21 @@
 // are then told in any case, and after them the last line of the replay program: `end N` after N operations, or `stop R at
 // O`, where the counts are those of the operations before byte O.
 #![tactic(auto)]
+
 ghost use Rattle.std.specs.Prelude.{◌≡◌, ◌<◌, ◌≤◌, length};
 ghost use Rattle.pace.specs.Ready.{Ready};
 
 use batch::{Counts, Ran, Tally};
-use libc::{STDERR_FILENO, STDIN_FILENO, STDOUT_FILENO};
 use opening::Opened;
 use rules::Kind;
+use std::env::Env;
+
+// The file descriptors of standard input, standard output and standard error.
+const STDIN_FILENO: i32 = 0;
+
+const STDOUT_FILENO: i32 = 1;
+
+const STDERR_FILENO: i32 = 2;
 
 // A word of the command line as a number.
 #[derive(Clone, Copy)]
@@ -107,19 +115,21 @@ fn number(digits: &[u8]) -> Word {
     Word::Number(value)
 }
 
-// Argument i as a number.
-fn argument(i: usize) -> Word {
+// Argument i as a number; bad where it is missing, or longer than 16 bytes.
+fn argument(env: &impl Env, i: usize) -> Word {
     let mut text = [0u8; 16];
-    let n = os::arg(i, &mut text);
+    let Ok(n) = env.arg(i, &mut text) else {
+        return Word::Bad;
+    };
     number(&text[..n])
 }
 
 // A job of a kind, with the other two words.
-fn job_of(kind: Kind) -> Asked {
-    let Word::Number(capacity) = argument(2) else {
+fn job_of(env: &impl Env, kind: Kind) -> Asked {
+    let Word::Number(capacity) = argument(env, 2) else {
         return Asked::Unclear;
     };
-    let Word::Number(repeats) = argument(3) else {
+    let Word::Number(repeats) = argument(env, 3) else {
         return Asked::Unclear;
     };
     if 1024 < capacity {
@@ -133,13 +143,13 @@ fn job_of(kind: Kind) -> Asked {
 }
 
 // What the command line asks for.
-fn read_job() -> Asked {
-    let Word::Number(kind) = argument(1) else {
+fn read_job(env: &impl Env) -> Asked {
+    let Word::Number(kind) = argument(env, 1) else {
         return Asked::Unclear;
     };
     match kind {
-        1 => job_of(Kind::Arc),
-        2 => job_of(Kind::Car),
+        1 => job_of(env, Kind::Arc),
+        2 => job_of(env, Kind::Car),
         _ => Asked::Unclear,
     }
 }
@@ -630,8 +640,8 @@ fn do_job(job: Job) {
     with_none(job);
 }
 
-fn main() {
-    match read_job() {
+fn main(rt: HostRuntime) {
+    match read_job(&rt) {
         Asked::Job(job) => do_job(job),
         Asked::Unclear => {
             io::write_all(

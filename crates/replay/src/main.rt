@@ -7,11 +7,16 @@
 // turn, once. tools/wrong_shells tries that by runs. The rest is proved: `Replays` in specs/Standing.antt, with the
 // theorem `any_buffer` of `replaying`.
 #![tactic(auto)]
+
 ghost use Rattle.std.specs.Prelude.{◌≡◌, ◌≤◌, length};
 ghost use Rattle.replay.specs.Standing.{Stands, Holds, Refills, Goes, Turned as TurnedTo, Replays};
 
-use libc::{STDIN_FILENO, STDOUT_FILENO};
 use replaying::{Replay, Turned};
+
+// The file descriptors of standard input and standard output.
+const STDIN_FILENO: i32 = 0;
+
+const STDOUT_FILENO: i32 = 1;
 
 // Where the program stands: the replay, how many bytes of the input wait at the start of the buffer, and whether to go on.
 #[derive(Clone, Copy)]

@@ -1,7 +1,11 @@
 // What the test programs read and write. Text goes to standard output at once, with no buffer to be lent: a call then lends one slice at most, and the proofs of the
 // test programs, whose cost grows with every loan, stay small.
 #![tactic(auto)]
-use libc::{STDIN_FILENO, STDOUT_FILENO};
+
+// The file descriptors of standard input and standard output.
+const STDIN_FILENO: i32 = 0;
+
+const STDOUT_FILENO: i32 = 1;
 
 // The bytes of a word.
 pub fn word(text: &[u8]) {
