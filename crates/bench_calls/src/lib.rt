@@ -1,5 +1,6 @@
 // The calls that bench/check times, for a program in C: the state check, `new`, and one public call, on the words of an area.
 #![tactic(auto)]
+
 ghost use Rattle.std.specs.Prelude.{◌≡◌};
 ghost use Rattle.rules.specs.Calls.{Get};
 ghost use Rattle.contracts.specs.Policy.{arc_policy};

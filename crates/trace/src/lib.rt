@@ -1,5 +1,6 @@
 // Traces: operations one after the other, read by a cursor, and the check of a whole trace.
 #![tactic(auto)]
+
 ghost use Rattle.std.specs.Prelude.{◌≡◌, ◌+◌, ◌<◌, ◌^◌, length};
 ghost use Rattle.trace.specs.Reading.{check_of, told_into, room_in};
 ghost use Rattle.trace.specs.Steps.{step_to, step_at, step_of};
@@ -192,8 +193,7 @@ pub fn check(trace: &[u8]) -> Checked
 }
 
 // How many operations of a trace read whole.
-#[unsafe(no_mangle)]
-pub extern "C" fn trace_operations(trace: &[u8]) -> u64
+pub fn trace_operations(trace: &[u8]) -> u64
     ensures { result ≡ (check_of trace.now).operations }
 {
     let c = check(trace);
@@ -201,8 +201,7 @@ pub extern "C" fn trace_operations(trace: &[u8]) -> u64
 }
 
 // The number of the refusal that stops a trace, or 0.
-#[unsafe(no_mangle)]
-pub extern "C" fn trace_refusal(trace: &[u8]) -> u64
+pub fn trace_refusal(trace: &[u8]) -> u64
     ensures { result ≡ (check_of trace.now).refusal }
 {
     let c = check(trace);
@@ -210,8 +209,7 @@ pub extern "C" fn trace_refusal(trace: &[u8]) -> u64
 }
 
 // Where the operation that stops a trace starts, or the trace's length.
-#[unsafe(no_mangle)]
-pub extern "C" fn trace_offset(trace: &[u8]) -> u64
+pub fn trace_offset(trace: &[u8]) -> u64
     ensures { result ≡ (check_of trace.now).offset }
 {
     let c = check(trace);
@@ -220,8 +218,7 @@ pub extern "C" fn trace_offset(trace: &[u8]) -> u64
 
 // All three in one pass, into the first three words of `out`: the operations, the refusal, the offset. Answers 1; or 0
 // where `out` has fewer than three words, and then nothing is written.
-#[unsafe(no_mangle)]
-pub extern "C" fn trace_check_all(trace: &[u8], out: &mut [u64]) -> u64
+pub fn trace_check_all(trace: &[u8], out: &mut [u64]) -> u64
     ensures into { out.new ≡ told_into (check_of trace.now) out.old }
     ensures room { result ≡ room_in out.old }
 {
