@@ -1,6 +1,7 @@
 // ARC (RULES 5; src/policy/arc.rs): what only ARC has in an insert: ghost lists are trimmed before a plain miss, and the
 // oldest is the victim. The calls are in `inner_calls`.
 #![tactic(auto)]
+
 ghost use Rattle.std.specs.Prelude.{◌≡◌, ◌+◌, ◌<◌, length};
 ghost use Rattle.rules.specs.State.{in_all};
 ghost use Rattle.rules.specs.Ghosts.{drop_oldest};

@@ -5,6 +5,7 @@
 //
 // A side is 0 for T1 and B1, 1 for T2 and B2; list 2 of the residents is the free slots.
 #![tactic(auto)]
+
 pub mod ghost_parts;
 pub mod lookup_part;
 pub mod resident_part;

@@ -4,7 +4,7 @@ use mathlib.Core.List.{map}
 use Prim.Native.Nat.{ℕ, ◌+◌, ◌^◌, ◌<◌}
 use native.Mathlib.Omega.{arith}
 use lib.ListN.{length, length-map}
-use Rattle.rules.specs.State.{list, residents}
+use Rattle.rules.specs.State.{residents}
 use Rattle.rings.specs.Members.{Mem}
 use Rattle.residents.specs.Residents.{count_of, frame_of, total}
 use Rattle.residents.specs.Changes.{HasList}

@@ -1,6 +1,7 @@
 // CAR (RULES 6; src/policy/car.rs): what only CAR has in an insert, the sweep that finds the victim. The calls are in
 // `inner_calls`.
 #![tactic(auto)]
+
 ghost use Rattle.rules.specs.Car.{replace};
 ghost use Rattle.contracts.specs.Policy.{car_policy};
 ghost use Rattle.stages.specs.Common.{HasResident};

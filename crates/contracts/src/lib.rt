@@ -1,5 +1,6 @@
 // What a call on an area answers and leaves: specs/, over the policy. The code is the number of a kind alone.
 #![tactic(auto)]
+
 ghost use Rattle.std.specs.Prelude.{◌≡◌};
 ghost use Rattle.contracts.specs.Policy.{policy_of};
 

@@ -8,7 +8,7 @@ use Rattle.area.specs.Area.{end_at}
 use Rattle.area.specs.Stored.{state_in}
 use Rattle.empty_cache.specs.Fresh.{Empty, New}
 use Rattle.empty_cache.specs.declared.Made as declared
-use Rattle.empty_cache.specs.declared.Made.TheVariants.{Made, Refused}
+use Rattle.empty_cache.specs.declared.Made.TheVariants.{Refused}
 
 pub same_answer : (kind c : ℕ) (w u v : List ℕ) (r s : declared.Made) → New kind c w u r → New kind c w v s → r ≡ s
 same_answer kind c w u v r s a b = a.answer ∙ sym b.answer

@@ -1,6 +1,7 @@
 // An empty cache in an area: made where any words may lie, and made again where a cache was. ARC's `new` and CAR's call this one with
 // the kind 1 and 2. Each part is lent to the crate that it belongs to.
 #![tactic(auto)]
+
 ghost use Rattle.std.specs.Prelude.{◌≡◌, ◌<◌, ◌/◌};
 ghost use Rattle.rules.specs.Car.{new as new_state};
 ghost use Rattle.residents.specs.Changes.{made as made_residents};

@@ -2,6 +2,7 @@
 // those of the rules, over the operations of `store`. The kind is matched only where the rules differ: what a hit does (`touch`), what comes before a plain miss (`trim`),
 // where a page enters (`put`, `exchange`), and who the victim is (`choose`).
 #![tactic(auto)]
+
 ghost use Rattle.std.specs.Prelude.{false, ◌<◌};
 ghost use Rattle.rules.specs.Calls.{Get, Insert, Remove, Clear, Cleared, Peek, Contains, Len, Capacity, Target, T1Len, T2Len, B1Len, B2Len, Holds, Number};
 ghost use Rattle.area.specs.Area.{side_of};

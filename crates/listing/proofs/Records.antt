@@ -31,7 +31,6 @@ use Rattle.rules.specs.declared.Kind.TheVariants as kinds
 use Rattle.listing.specs.Order.{rising_from, order}
 use Rattle.listing.specs.Steps.{order_in, record_at}
 use Rattle.listing.specs.Outcome.{record_is, records_are}
-use Rattle.listing.specs.declared.Record.{Record}
 
 map_append : {A B : Type 0} (f : A → B) (l m : List A) → map f (l ++ m) ≡ map f l ++ map f m
 map_append f [] m = refl

@@ -2,6 +2,7 @@
 // rising slot. `prepare` checks the area and tells how many records are written and where the first resident stands; `advance` reads one
 // resident and tells where the next one stands; `list` is the loop over them that writes. All together is linear in the capacity.
 #![tactic(auto)]
+
 ghost use Rattle.std.specs.Prelude.{◌≡◌, cond, ◌+◌, ◌-◌, ◌≤◌, eqb, get_or};
 ghost use Rattle.area.specs.Stored.{Stored, state_in};
 ghost use Rattle.store.specs.Store.{slots_at};

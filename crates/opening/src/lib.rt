@@ -1,6 +1,7 @@
 // The way from any words to an inner call: the state check, and the capacity of the cache that the words hold. Every
 // public call starts here.
 #![tactic(auto)]
+
 ghost use Rattle.contracts.specs.Policy.{policy_of};
 ghost use Rattle.opening.specs.Opening.{Opens};
 

@@ -5,6 +5,7 @@
 // operation's code, and with that on the answer. The other way round each was an indirect jump, and took 7 to 17 % more
 // instructions. A loop for each policy was no better: the reader, then called twice, is no longer inlined (D57).
 #![tactic(auto)]
+
 ghost use Rattle.rules.specs.Batch.{call_of};
 ghost use Rattle.answers.specs.Answers.{reply_is};
 ghost use Rattle.contracts.specs.Policy.{policy_of};

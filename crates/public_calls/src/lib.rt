@@ -1,6 +1,7 @@
 // The public calls of both policies, by the kind, on a lent area of any words. Nothing is asked of the caller: where the words are no writing of a well-formed state of the kind's policy
 // the answer is refusal 3 and nothing changes, and else the inner call is made. A call reads the whole area, to check it.
 #![tactic(auto)]
+
 ghost use Rattle.std.specs.Prelude.{◌≡◌, min};
 ghost use Rattle.rules.specs.State.{max_capacity};
 ghost use Rattle.rules.specs.Public.{words_needed};

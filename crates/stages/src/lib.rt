@@ -1,6 +1,7 @@
 // What ARC and CAR do alike, once for both, over the operations of `store`: the slot of a page, how many are resident, the ghost hit, and the
 // list to replace from. `specs/Stages` has the stages of an insert over the policy, and `proofs` the laws that both policies' calls cite.
 #![tactic(auto)]
+
 ghost use Rattle.std.specs.Prelude.{◌≡◌, ◌<◌};
 ghost use Rattle.rules.specs.State.{residents};
 ghost use Rattle.rules.specs.Stages.{prefers_t1};

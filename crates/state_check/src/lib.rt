@@ -4,6 +4,7 @@
 // dead: then the lookup, which holds as many places as the lists have, holds exactly theirs. All is linear in the capacity whatever the
 // words are.
 #![tactic(auto)]
+
 ghost use Rattle.std.specs.Prelude.{◌≡◌, ◌+◌, ◌*◌, ◌<◌};
 ghost use Rattle.rings.specs.Rings.{members_of};
 ghost use Rattle.rings.specs.Walks.{ahead, behind};

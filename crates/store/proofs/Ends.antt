@@ -4,7 +4,6 @@ use mathlib.Core.Option.{some}
 use mathlib.Core.List.{List, ◌∷◌, map}
 use Prim.Native.Nat.{ℕ, ◌+◌, ◌<◌}
 use lib.ListN.{length, drop, length-map}
-use Rattle.rules.specs.Lists.{last}
 use Rattle.rules.specs.State.{list}
 use Rattle.rules.specs.Car.{Resident}
 use Rattle.cells.specs.Cells.{next_of, prev_of}

@@ -2,6 +2,7 @@
 // holds a cache of capacity c, and leaves one; what it does to the state that the area reads as is said in the rules'
 // own words (area_state/specs/States.antt). No policy is known here, and no link.
 #![tactic(auto)]
+
 ghost use Rattle.std.specs.Prelude.{◌≡◌, ◌+◌, ◌<◌, ◌≤◌, eqb, ltb, length, get_or};
 ghost use Rattle.rules.specs.State.{list, ghosts};
 ghost use Rattle.rules.specs.Car.{taken as slot_taken};

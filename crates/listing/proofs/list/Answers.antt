@@ -1,4 +1,4 @@
-use Rattle.std.proofs.Common.{arith, rules}
+use Rattle.std.proofs.Common.{rules}
 use Rattle.listing.proofs.Looping.{listing_stands, listing_room, listing_goes_on, listing_ends}
 use Rattle.listing.proofs.list.Goals as goal
 

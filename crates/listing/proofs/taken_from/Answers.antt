@@ -1,4 +1,3 @@
-use Prim.Native.Nat.{◌-◌}
 use Rattle.listing.proofs.Laws.{laws}
 use Rattle.listing.proofs.taken_from.Goals as goal
 
