@@ -2,6 +2,7 @@
 // state the answer is refusal 3 and nothing changes, and else the inner call is made. A call reads the whole area, to check it.
 // The calls that lend counts or records are by the kind, for both policies: `batch::batch` and `listing::list`.
 #![tactic(auto)]
+
 ghost use Rattle.std.specs.Prelude.{◌≡◌, min};
 ghost use Rattle.rules.specs.State.{max_capacity};
 ghost use Rattle.rules.specs.Calls.{Get, Insert, Remove, Clear, Peek, Contains, Len, Capacity, Target, T1Len, T2Len, B1Len, B2Len};

@@ -12,7 +12,7 @@ use Rattle.rules.specs.Stages.{place_of, ghost_hit, is_b2, turn}
 use Rattle.rules.specs.Counts.{Counts, counted, outs, hits}
 use Rattle.rules.specs.Arc as arc
 use Rattle.rules.specs.Arc.{Arc}
-use Rattle.rules.specs.Car.{Car, referenced}
+use Rattle.rules.specs.Car.{referenced}
 use Rattle.rules.proofs.Demand3.{does_pays}
 use Rattle.contracts.specs.Policy.{policy_of}
 use Rattle.rules.specs.declared.Kind.{Kind}

@@ -3,6 +3,7 @@
 // inner form; `tally_up` and `batch` take any words, the one with counts by value, the other with a lent record of
 // them.
 #![tactic(auto)]
+
 ghost use Rattle.std.specs.Prelude.{◌≡◌};
 ghost use Rattle.rules.specs.Counts.{no_counts, plus, counted};
 ghost use Rattle.answers.specs.Answers.{reply_is};

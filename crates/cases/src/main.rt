@@ -2,6 +2,7 @@
 // calls. A line for each. The file stdout is written by hand from docs/RULES.md; the lists are read from the words of
 // the area by docs/LAYOUT.md.
 #![tactic(auto)]
+
 ghost use Rattle.std.specs.Prelude.{◌≡◌, ◌≤◌, length};
 
 use answers::{Cleared, Counted, Gone, Got, Held, Inserted, Place, Seen};

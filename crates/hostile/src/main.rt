@@ -3,6 +3,7 @@
 // number. Where an area is refused, `get`, `insert`, `remove` and `clear` are called too: ` answered` is added where one of them is not refused,
 // and ` changed` where the area is no longer what was read. Areas and lines are made by tools/hostile_areas, from docs/LAYOUT.md alone.
 #![tactic(auto)]
+
 ghost use Rattle.std.specs.Prelude.{◌≡◌, ◌<◌, length};
 
 use answers::{Cleared, Counted, Gone, Got, Inserted};

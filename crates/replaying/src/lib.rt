@@ -1,6 +1,7 @@
 // The replay program (RULES 9) on an input that comes in pieces: what it has told and has still to tell, and the code
 // that tells it. The caller reads, calls `feed` and writes; nothing here grows with the input.
 #![tactic(auto)]
+
 ghost use Rattle.std.specs.Prelude.{◌≡◌, ◌≤◌, length, take};
 ghost use Rattle.numbers.specs.Reading.{frame_of};
 ghost use Rattle.lines.specs.Lines.{line_room};

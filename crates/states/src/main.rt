@@ -2,6 +2,7 @@
 // batch and the listing. The operations are public calls; the states are read from the words of the area by docs/LAYOUT.md, and not by the
 // library, so that this is a second reading of them. What is right, crates/states/stdout, comes from the Rust oracle (oracle/make_vectors).
 #![tactic(auto)]
+
 ghost use Rattle.std.specs.Prelude.{◌≡◌, ◌≤◌, length};
 
 use answers::{Inserted, Reply};

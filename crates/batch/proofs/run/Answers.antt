@@ -1,4 +1,3 @@
-use Prim.Native.Nat.{◌-◌}
 use native.Mathlib.Omega.{arith}
 use Rattle.batch.proofs.Turning.{begins, laws}
 use Rattle.batch.proofs.run.Goals as goal

@@ -1,4 +1,3 @@
-use Prim.Native.Nat.{◌-◌}
 use Rattle.test_text.proofs.Laws.{laws}
 use Rattle.hostile.proofs.unchanged.Goals as goal
 

@@ -1,4 +1,3 @@
-use Rattle.std.proofs.Common.{◌-◌}
 use Rattle.pace.proofs.Laws.{laws}
 use Rattle.pace.proofs.number.Goals as goal
 

@@ -1,4 +1,3 @@
-use Rattle.std.proofs.Common.{◌-◌}
 use Rattle.pace.proofs.Laws.{laws}
 use Rattle.pace.proofs.past_number.Goals as goal
 

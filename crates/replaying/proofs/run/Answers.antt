@@ -1,4 +1,3 @@
-use Prim.Native.Nat.{◌-◌}
 use borrow.Author.Rules.{rules}
 use Rattle.replaying.proofs.Running.{laws, ends, stops, wrote_last}
 use Rattle.replaying.proofs.run.Goals as goal
