@@ -1,4 +1,5 @@
-/* The trace check: what a trace's bytes hold, without running them. Link target/staticlib/libtrace.a, which host/build writes.
+/* The trace check: what a trace's bytes hold, without running them. Link target/staticlib/libtrace.a, which host/build
+ * writes: the archive that `rt lib` makes of crates/trace_c.
  *
  * Each function answers for any bytes; none of them allocates or fails, and only the last one writes. A trace is read
  * operation by operation, up to its end or to the first operation that cannot be read. `bytes` points at `length` bytes
