@@ -1,6 +1,7 @@
 // The program `area_drawing`: the area of ARC at capacity 2 after the operations of P1 (RULES 11), word by word: its index,
 // what it holds by docs/LAYOUT.md, its value. docs/LAYOUT.md has what it prints as its drawing (tools/drawing).
 #![tactic(auto)]
+
 ghost use Rattle.std.specs.Prelude.{◌≡◌, ◌≤◌, length};
 
 use arc_core::ArcCore;

@@ -7,6 +7,7 @@
 // an inner call of `arc`. An inner call asks that its area is well formed, and here a proof answers, not a check: the check said so, and every inner
 // call leaves it so. That a fault of one guest changes no word of another is the contract of `serve`.
 #![tactic(auto)]
+
 ghost use Rattle.std.specs.Prelude.{◌≡◌, ◌<◌, ◌≤◌, length};
 ghost use Rattle.contracts.specs.Outer.{made_is};
 ghost use Rattle.guests.specs.Guests.{hits as hits_of, served_is, Ready, Faulted, AllReady, Checks, Tells, Started, Alone, Stepped, Even, Ran, Rounds};

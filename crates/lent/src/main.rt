@@ -3,6 +3,7 @@
 // here, the shortest there is: it lends a local, and returns it beside the answer. It also tells what is left of the
 // header's unused words. The file stdout is written by hand from docs/RULES.md and docs/LAYOUT.md.
 #![tactic(auto)]
+
 ghost use Rattle.contracts.specs.Policy.{policy_of};
 ghost use Rattle.batch.specs.Outcomes.{ran_is, BatchOutcome};
 ghost use Rattle.listing.specs.Outcome.{ListingOutcome};

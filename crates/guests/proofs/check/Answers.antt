@@ -1,4 +1,3 @@
-use Prim.Native.Nat.{◌-◌}
 use Rattle.guests.proofs.Laws.{laws}
 use Rattle.guests.proofs.check.Goals as goal
 

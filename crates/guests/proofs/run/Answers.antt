@@ -1,5 +1,4 @@
 use native.Mathlib.Omega.{arith}
-use Prim.Native.Nat.{◌-◌}
 use Rattle.guests.proofs.Laws.{begins, laws}
 use Rattle.guests.proofs.run.Goals as goal
 

@@ -1,4 +1,3 @@
-use Prim.Native.Nat.{◌-◌}
 use Rattle.test_text.proofs.Laws.{laws}
 use Rattle.lent.proofs.unused_kept.Goals as goal
 
