@@ -184,7 +184,8 @@ program() { # NAME..
     done
 }
 
-# The archive of a static library, by `rt lib`, where it is missing or not current.
+# The archive of a static library, where it is missing or not current: as `rt lib` makes it, over the libraries that
+# stand there.
 archive_of() { # NAME OUT
     local own=$root/crates/$1/out/lib$1.a log=$root/target/log/build-$1.log sum
     if current "$2" "$1"; then return 0; fi
@@ -192,7 +193,8 @@ archive_of() { # NAME OUT
     rm -f "$own" "$2"
     touch "$log.began"
     sum=$(sum_of "$1")
-    (cd "$root/crates/$1" && rt lib </dev/null) >"$log" 2>&1 || { tail -n 20 "$log" >&2; return 2; }
+    need python3
+    python3 "$root/tools/kit.py" archive "$1" </dev/null >"$log" 2>&1 || { tail -n 20 "$log" >&2; return 2; }
     cp "$own" "$2"
     touch -r "$log.began" "$2"
     made "$2" "$sum"
