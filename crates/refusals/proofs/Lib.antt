@@ -1,0 +1,2 @@
+-- Theorems about refusals. Assumes nothing.
+pub mod OneToOne
