@@ -9,11 +9,6 @@ pub fn keep(buf: &mut [u8], from: usize, to: usize) -> usize
     requires { Within buf.old from to }
     ensures { Kept buf.old buf.new from to result }
 {
-    let count = to - from;
-    let mut i: usize = 0;
-    while i < count {
-        buf[i] = buf[from + i];
-        i += 1;
-    }
-    count
+    buf.copy_within(from..to, 0);
+    to - from
 }

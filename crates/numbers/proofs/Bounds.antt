@@ -8,11 +8,9 @@ use native.Mathlib.Omega.{arith}
 use lib.Dec.{ltb, eqb}
 use lib.ListN.{length}
 use borrow.Author.Tests.{ltb-true, ltb-false}
-use Rattle.numbers.specs.Reading.{read_from, number_of, page_of, frame_of, as_frame, last_byte, group}
+use Rattle.std.specs.Prelude.{Ok, Err}
+use Rattle.numbers.specs.Reading.{numeral, Number, read_from, page_of, frame_of, last_byte, group}
 use Rattle.numbers.specs.Widths.{top}
-use Rattle.numbers.specs.declared.Number.{Number}
-use Rattle.numbers.specs.declared.Number.TheVariants.{Value, Faulty}
-use Rattle.numbers.specs.declared.Frame.TheVariants.{Value as FrameValue}
 
 -- a value below t, read up to the place u, past the place at, with n bytes there and at most m allowed
 pub record Bounds (t at n m v u : ℕ) : Type 0 where
@@ -22,8 +20,8 @@ pub record Bounds (t at n m v u : ℕ) : Type 0 where
   pub allowed : u ≤ at + m
 
 abbrev pub Bounded : ℕ → ℕ → ℕ → ℕ → Number → Type 0
-Bounded t at n m (Value v u) = Bounds t at n m v u
-Bounded t at n m (Faulty f) = Unit {0}
+Bounded t at n m (Ok r) = Bounds t at n m r.value r.used
+Bounded t at n m (Err f) = Unit {0}
 
 cond_elim : (P : Number → Type 0) (x : Bool) (a b : Number) → (x ≡ true → P a) → (x ≡ false → P b) → P (cond x a b)
 cond_elim P true a b f g = f refl
@@ -40,14 +38,14 @@ last_bounded t at n m b h =
     (λ _. record { below = h; some = omega arith; there = omega arith; allowed = omega arith })
 
 group_bounded : (t at n m b : ℕ) (r : Number) → Bounded t (at + 1) n m r → Bounded (128 * t) at (suc n) (suc m) (group b r)
-group_bounded t at n m b (Value v u) h =
+group_bounded t at n m b (Ok r) h =
     record {
       below = omega (arith, h.below);
       some = omega (arith, h.some);
       there = omega (arith, h.there);
       allowed = omega (arith, h.allowed);
     }
-group_bounded t at n m b (Faulty f) h = tt
+group_bounded t at n m b (Err f) h = tt
 
 pub bounded : (limit n at : ℕ) (bs : List ℕ) → Bounded (top limit n) at (length bs) (suc n) (read_from limit n at bs)
 unfolding read_from top
@@ -62,7 +60,7 @@ bounded limit (suc n) at (b ∷ bs) =
     (λ _. group_bounded (top limit n) at (length bs) (suc n) b (read_from limit n (at + 1) bs) (bounded limit n (at + 1) bs))
 
 -- the law for every width
-pub number_bounds : (limit n : ℕ) (bs : List ℕ) (v u : ℕ) → Value v u ≡ read_from limit n 0 bs → Bounds (top limit n) 0 (length bs) (suc n) v u
+pub number_bounds : (limit n : ℕ) (bs : List ℕ) (v u : ℕ) → numeral v u ≡ read_from limit n 0 bs → Bounds (top limit n) 0 (length bs) (suc n) v u
 number_bounds limit n bs v u e = subst (Bounded (top limit n) 0 (length bs) (suc n)) (sym e) (bounded limit n 0 bs)
 
 -- ---- the two widths
@@ -74,19 +72,10 @@ pub frame_top : top 15 4 ≡ 2 ^ 32
 unfolding top
 frame_top = refl
 
-pub page_bounds : (bs : List ℕ) (v u : ℕ) → Value v u ≡ page_of bs → Bounds (2 ^ 64) 0 (length bs) 10 v u
+pub page_bounds : (bs : List ℕ) (v u : ℕ) → numeral v u ≡ page_of bs → Bounds (2 ^ 64) 0 (length bs) 10 v u
 unfolding top
 page_bounds bs v u e = number_bounds 1 9 bs v u e
 
-pub frame_bounds : (bs : List ℕ) (v u : ℕ) → FrameValue v u ≡ frame_of bs → Bounds (2 ^ 32) 0 (length bs) 5 v u
+pub frame_bounds : (bs : List ℕ) (v u : ℕ) → numeral v u ≡ frame_of bs → Bounds (2 ^ 32) 0 (length bs) 5 v u
 unfolding top
-frame_bounds bs v u e = of (number_of 5 15 bs) refl e
-  where
-    of : (r : Number) → r ≡ number_of 5 15 bs → FrameValue v u ≡ as_frame r → Bounds (2 ^ 32) 0 (length bs) 5 v u
-    of (Value x w) is e =
-        let p : x ≡ v = cc in
-        let q : w ≡ u = cc in
-        number_bounds 15 4 bs v u (cc)
-    of (Faulty f) is e =
-        let z : ◌≡◌ {A = ℕ} 0 1 = cc in
-        absurd (omega arith)
+frame_bounds bs v u e = number_bounds 15 4 bs v u e

@@ -12,19 +12,19 @@ use lib.Dec.{ltb, eqb}
 use lib.ListN.{length, get_or, drop, drop_of_length-le}
 use lib.Seq.{drop-cons}
 use borrow.Author.Tests.{lt-ltb, le-ltb, eq-eqb, ne_eqb}
-use Rattle.numbers.specs.Reading.{read_from, number_of, last_byte, group}
+use Rattle.std.specs.Prelude.{Ok, Err}
+use Rattle.numbers.specs.Reading.{numeral, Number, read_from, number_of, last_byte, group}
 use Rattle.numbers.specs.Widths.{top, Wide}
+use Rattle.numbers.specs.declared.Numeral.{Numeral}
 use Rattle.numbers.specs.declared.Fault.TheVariants.{Missing, NotShortest, TooLarge}
-use Rattle.numbers.specs.declared.Number.{Number}
-use Rattle.numbers.specs.declared.Number.TheVariants.{Value, Faulty}
 
 -- ---- one byte of the definition, in the terms of the code
-pub nothing_of : (limit n at : ℕ) → read_from limit n at [] ≡ Faulty (Missing at)
+pub nothing_of : (limit n at : ℕ) → read_from limit n at [] ≡ Err (Missing at)
 unfolding read_from
 nothing_of limit zero at = refl
 nothing_of limit (suc n) at = refl
 
-pub nothing_here : (limit n at : ℕ) (s : List ℕ) → length s ≤ at → read_from limit n at (drop at s) ≡ Faulty (Missing at)
+pub nothing_here : (limit n at : ℕ) (s : List ℕ) → length s ≤ at → read_from limit n at (drop at s) ≡ Err (Missing at)
 nothing_here limit n at s h = rw (drop_of_length-le s h) (nothing_of limit n at)
 
 pub byte_here : (limit n at : ℕ) (s : List ℕ) → at < length s
@@ -33,15 +33,26 @@ unfolding read_from
 byte_here limit n at s h = rw (drop-cons s at 0 h, add-one)
 
 pub last_here : (limit at : ℕ) (s : List ℕ) → at < length s
-    → read_from limit 0 at (drop at s) ≡ cond (ltb limit (get_or s at 0)) (Faulty (TooLarge at)) (last_byte at (get_or s at 0))
+    → read_from limit 0 at (drop at s) ≡ cond (ltb limit (get_or s at 0)) (Err (TooLarge at)) (last_byte at (get_or s at 0))
 unfolding read_from
 last_here limit at s h = rw (drop-cons s at 0 h)
+
+-- ---- the parts of a number that was read
+pub value_same : (v u x w : ℕ) → numeral v u ≡ numeral x w → v ≡ x
+value_same v u x w e =
+    let r : ◌≡◌ {A = Numeral ℕ} (record { value = v; used = u }) (record { value = x; used = w }) = cc in
+    ap (λ (n : Numeral ℕ). n.value) r
+
+pub used_same : (v u x w : ℕ) → numeral v u ≡ numeral x w → u ≡ w
+used_same v u x w e =
+    let r : ◌≡◌ {A = Numeral ℕ} (record { value = v; used = u }) (record { value = x; used = w }) = cc in
+    ap (λ (n : Numeral ℕ). n.used) r
 
 -- ---- what was read so far, in front of what is left
 -- the higher groups, behind those that were read, whose value is v, with c for the weight of the next
 abbrev pub grown : ℕ → ℕ → Number → Number
-grown v c (Value x u) = Value (v + c * x) u
-grown v c (Faulty f) = Faulty f
+grown v c (Ok r) = numeral (v + c * r.value) r.used
+grown v c (Err f) = Err f
 
 -- the bytes before the place at have the value v, each of them with its top bit set, and the next weighs c
 pub record SoFar (most limit : ℕ) (s : List ℕ) (v c at : ℕ) : Type 0 where
@@ -61,8 +72,8 @@ begins most limit s w =
     }
   where
     unchanged : (r : Number) → grown 0 1 r ≡ r
-    unchanged (Value x u) = ap₂ Value (omega arith) refl
-    unchanged (Faulty f) = refl
+    unchanged (Ok n) = ap₂ numeral (omega arith) refl
+    unchanged (Err f) = refl
 
 -- an answer x at the place is the whole answer
 pub answer : (most limit : ℕ) (s : List ℕ) (v c at : ℕ) (x : Number) → SoFar most limit s v c at
@@ -78,15 +89,15 @@ before_last most limit s at l h =
     rw e (byte_here limit (most - 1 - (at + 1)) at s h)
 
 pub at_last : (most limit : ℕ) (s : List ℕ) (at : ℕ) → at ≡ most - 1 → at < length s
-    → read_from limit (most - 1 - at) at (drop at s) ≡ cond (ltb limit (get_or s at 0)) (Faulty (TooLarge at)) (last_byte at (get_or s at 0))
+    → read_from limit (most - 1 - at) at (drop at s) ≡ cond (ltb limit (get_or s at 0)) (Err (TooLarge at)) (last_byte at (get_or s at 0))
 at_last most limit s at l h =
     let e : most - 1 - at ≡ 0 = omega arith in
     rw e (last_here limit at s h)
 
 -- ---- one byte more with its top bit set
 grown_group : (v c b : ℕ) (r : Number) → grown v c (group b r) ≡ grown (v + c * (b % 128)) (c * 128) r
-grown_group v c b (Value x u) = ap₂ Value (omega (arith, mul-add c (128 * x) (b % 128), mul_assoc c 128 x)) refl
-grown_group v c b (Faulty f) = refl
+grown_group v c b (Ok r) = ap₂ numeral (omega (arith, mul-add c (128 * r.value) (b % 128), mul_assoc c 128 r.value)) refl
+grown_group v c b (Err f) = refl
 
 pub top_some : (limit n : ℕ) → 1 ≤ limit → 2 ≤ top limit n
 unfolding top
@@ -151,36 +162,36 @@ again most limit s v c at i l h b =
 
 -- ---- the answers of the code
 -- past the bytes
-pub missing : (most limit : ℕ) (s : List ℕ) (v c at : ℕ) → SoFar most limit s v c at → length s ≤ at → Faulty (Missing at) ≡ number_of most limit s
-missing most limit s v c at i h = answer most limit s v c at (Faulty (Missing at)) i (nothing_here limit _ at s h)
+pub missing : (most limit : ℕ) (s : List ℕ) (v c at : ℕ) → SoFar most limit s v c at → length s ≤ at → Err (Missing at) ≡ number_of most limit s
+missing most limit s v c at i h = answer most limit s v c at (Err (Missing at)) i (nothing_here limit _ at s h)
 
 -- a last byte before the last place
 module _ (most limit : ℕ) (s : List ℕ) (v c at : ℕ) (i : SoFar most limit s v c at) (l : at < most - 1) (h : at < length s) (b : get_or s at 0 < 128) where
-  pub first_value : at ≡ 0 → Value (v + c * get_or s at 0) (at + 1) ≡ number_of most limit s
+  pub first_value : at ≡ 0 → numeral (v + c * get_or s at 0) (at + 1) ≡ number_of most limit s
   first_value z =
       let e : ltb 0 at ≡ false = le-ltb 0 at (omega arith) in
-      answer most limit s v c at (Value (get_or s at 0) (at + 1)) i (before_last most limit s at l h ∙ simp (lt-ltb _ _ b, e) (any_byte (eqb (get_or s at 0) 0)))
+      answer most limit s v c at (numeral (get_or s at 0) (at + 1)) i (before_last most limit s at l h ∙ simp (lt-ltb _ _ b, e) (any_byte (eqb (get_or s at 0) 0)))
     where
-      any_byte : (x : Bool) → cond (x && false) (Faulty (NotShortest at)) (Value (get_or s at 0) (at + 1)) ≡ Value (get_or s at 0) (at + 1)
+      any_byte : (x : Bool) → cond (x && false) (Err (NotShortest at)) (numeral (get_or s at 0) (at + 1)) ≡ numeral (get_or s at 0) (at + 1)
       any_byte true = refl
       any_byte false = refl
 
-  pub group_zero : 0 < at → get_or s at 0 ≡ 0 → Faulty (NotShortest at) ≡ number_of most limit s
+  pub group_zero : 0 < at → get_or s at 0 ≡ 0 → Err (NotShortest at) ≡ number_of most limit s
   group_zero p z =
-      answer most limit s v c at (Faulty (NotShortest at)) i (before_last most limit s at l h ∙ simp (lt-ltb _ _ b, eq-eqb _ _ z, lt-ltb _ _ p))
+      answer most limit s v c at (Err (NotShortest at)) i (before_last most limit s at l h ∙ simp (lt-ltb _ _ b, eq-eqb _ _ z, lt-ltb _ _ p))
 
-  pub group_value : (get_or s at 0 ≡ 0 → ⊥) → Value (v + c * get_or s at 0) (at + 1) ≡ number_of most limit s
+  pub group_value : (get_or s at 0 ≡ 0 → ⊥) → numeral (v + c * get_or s at 0) (at + 1) ≡ number_of most limit s
   group_value z =
-      answer most limit s v c at (Value (get_or s at 0) (at + 1)) i (before_last most limit s at l h ∙ simp (lt-ltb _ _ b, ne_eqb _ _ z))
+      answer most limit s v c at (numeral (get_or s at 0) (at + 1)) i (before_last most limit s at l h ∙ simp (lt-ltb _ _ b, ne_eqb _ _ z))
 
 -- a byte at the last place
 module _ (most limit : ℕ) (s : List ℕ) (v c at : ℕ) (i : SoFar most limit s v c at) (l : at ≡ most - 1) (h : at < length s) where
-  pub last_over : limit < get_or s at 0 → Faulty (TooLarge at) ≡ number_of most limit s
-  last_over o = answer most limit s v c at (Faulty (TooLarge at)) i (at_last most limit s at l h ∙ simp (lt-ltb _ _ o))
+  pub last_over : limit < get_or s at 0 → Err (TooLarge at) ≡ number_of most limit s
+  last_over o = answer most limit s v c at (Err (TooLarge at)) i (at_last most limit s at l h ∙ simp (lt-ltb _ _ o))
 
-  pub last_zero : 0 < at → get_or s at 0 ≤ limit → get_or s at 0 ≡ 0 → Faulty (NotShortest at) ≡ number_of most limit s
+  pub last_zero : 0 < at → get_or s at 0 ≤ limit → get_or s at 0 ≡ 0 → Err (NotShortest at) ≡ number_of most limit s
   last_zero p o z =
-      answer most limit s v c at (Faulty (NotShortest at)) i (at_last most limit s at l h ∙ simp (le-ltb _ _ o, eq-eqb _ _ z, lt-ltb _ _ p))
+      answer most limit s v c at (Err (NotShortest at)) i (at_last most limit s at l h ∙ simp (le-ltb _ _ o, eq-eqb _ _ z, lt-ltb _ _ p))
 
-  pub last_value : get_or s at 0 ≤ limit → (get_or s at 0 ≡ 0 → ⊥) → Value (v + c * get_or s at 0) (at + 1) ≡ number_of most limit s
-  last_value o z = answer most limit s v c at (Value (get_or s at 0) (at + 1)) i (at_last most limit s at l h ∙ simp (le-ltb _ _ o, ne_eqb _ _ z))
+  pub last_value : get_or s at 0 ≤ limit → (get_or s at 0 ≡ 0 → ⊥) → numeral (v + c * get_or s at 0) (at + 1) ≡ number_of most limit s
+  last_value o z = answer most limit s v c at (numeral (get_or s at 0) (at + 1)) i (at_last most limit s at l h ∙ simp (le-ltb _ _ o, ne_eqb _ _ z))

@@ -1,6 +1,6 @@
 -- The loop of `read_long`, and the two straight bytes before it, in the shapes of the code: what answers the needs of the readers.
 -- Assumes nothing.
-use mathlib.Core.Path.{◌≡◌, refl, sym, ap, ◌∙◌}
+use mathlib.Core.Path.{◌≡◌, refl}
 use mathlib.Core.List.{List}
 use Prim.Native.Nat.{ℕ, ◌+◌, ◌*◌, ◌-◌, ◌%◌, ◌<◌, ◌≤◌}
 use native.Mathlib.Omega.{arith}
@@ -8,12 +8,10 @@ use lib.ListN.{length, get_or}
 use borrow.Author.Rules.{rules}
 use mir.Val.{Fits}
 use mir.Syntax.{w32, w64}
-use Rattle.numbers.specs.Reading.{number_of, frame_of, as_frame}
+use Rattle.std.specs.Prelude.{Err}
+use Rattle.numbers.specs.Reading.{numeral, number_of}
 use Rattle.numbers.specs.Widths.{Wide, Long}
 use Rattle.numbers.specs.declared.Fault.TheVariants.{Missing, NotShortest, TooLarge}
-use Rattle.numbers.specs.declared.Number.{Number}
-use Rattle.numbers.specs.declared.Number.TheVariants.{Value, Faulty}
-use Rattle.numbers.specs.declared.Frame.{Frame}
 use Rattle.numbers.proofs.Bounds.{number_bounds, frame_top}
 use Rattle.numbers.proofs.Laws.{SoFar, begins, again, missing, first_value, group_zero, group_value, last_over, last_zero, last_value, group_room, last_room, weight_room}
 
@@ -41,16 +39,16 @@ mod_small x = omega arith
 
 -- a turn before the last place
 module _ (most limit : ℕ) (s : List ℕ) (last v c at : ℕ) (w : Wide most limit) (i : Turn most limit s last v c at) where
-  pub turn_missing : length s ≤ at → Faulty (Missing at) ≡ number_of most limit s
+  pub turn_missing : length s ≤ at → Err (Missing at) ≡ number_of most limit s
   turn_missing h = missing most limit s v c at i.so_far h
 
   before : at < last → at < most - 1
   before l = omega (arith, i.ends)
 
-  pub turn_zero : at < last → at < length s → get_or s at 0 < 128 → get_or s at 0 ≡ 0 → Faulty (NotShortest at) ≡ number_of most limit s
+  pub turn_zero : at < last → at < length s → get_or s at 0 < 128 → get_or s at 0 ≡ 0 → Err (NotShortest at) ≡ number_of most limit s
   turn_zero l h b z = group_zero most limit s v c at i.so_far (before l) h b i.past z
 
-  pub turn_value : at < last → at < length s → get_or s at 0 < 128 → (get_or s at 0 ≡ 0 → ⊥) → Value (v + c * get_or s at 0) (at + 1) ≡ number_of most limit s
+  pub turn_value : at < last → at < length s → get_or s at 0 < 128 → (get_or s at 0 ≡ 0 → ⊥) → numeral (v + c * get_or s at 0) (at + 1) ≡ number_of most limit s
   turn_value l h b z = group_value most limit s v c at i.so_far (before l) h b z
 
   pub turn_again : at < last → at < length s → 128 ≤ get_or s at 0 → Turn most limit s last (v + c * (get_or s at 0 % 128)) (c * 128) (at + 1)
@@ -67,44 +65,49 @@ module _ (most limit : ℕ) (s : List ℕ) (last v c at : ℕ) (w : Wide most li
   weight_fits l = omega (arith, weight_room most limit s v c at w i.so_far (before l))
 
   -- and the last place
-  there : last ≤ at → at ≡ most - 1
-  there l = omega (arith, i.ends, i.so_far.inside)
+  ended : last ≤ at → SoFar most limit s v c last
+  ended l =
+      let e : at ≡ last = omega (arith, i.ends, i.so_far.inside) in
+      rw e at i.so_far
 
-  pub end_over : last ≤ at → at < length s → limit < get_or s at 0 → Faulty (TooLarge at) ≡ number_of most limit s
-  end_over l h o = last_over most limit s v c at i.so_far (there l) h o
+  pub end_missing : last ≤ at → length s ≤ last → Err (Missing last) ≡ number_of most limit s
+  end_missing l h = missing most limit s v c last (ended l) h
 
-  pub end_zero : last ≤ at → at < length s → get_or s at 0 ≤ limit → get_or s at 0 ≡ 0 → Faulty (NotShortest at) ≡ number_of most limit s
-  end_zero l h o z = last_zero most limit s v c at i.so_far (there l) h i.past o z
+  pub end_over : last ≤ at → last < length s → limit < get_or s last 0 → Err (TooLarge last) ≡ number_of most limit s
+  end_over l h o = last_over most limit s v c last (ended l) i.ends h o
 
-  pub end_value : last ≤ at → at < length s → get_or s at 0 ≤ limit → (get_or s at 0 ≡ 0 → ⊥) → Value (v + c * get_or s at 0) (at + 1) ≡ number_of most limit s
-  end_value l h o z = last_value most limit s v c at i.so_far (there l) h o z
+  pub end_zero : last ≤ at → last < length s → get_or s last 0 ≤ limit → get_or s last 0 ≡ 0 → Err (NotShortest last) ≡ number_of most limit s
+  end_zero l h o z = last_zero most limit s v c last (ended l) i.ends h (omega (arith, i.past, i.ends, i.so_far.inside)) o z
+
+  pub end_value : last ≤ at → last < length s → get_or s last 0 ≤ limit → (get_or s last 0 ≡ 0 → ⊥) → numeral (v + c * get_or s last 0) (last + 1) ≡ number_of most limit s
+  end_value l h o z = last_value most limit s v c last (ended l) i.ends h o z
 
   pub end_product_fits : (d : ℕ) → last ≤ at → d ≤ limit → Fits w64 (c * d)
-  end_product_fits d l h = omega (arith, (last_room most limit s v c at d i.so_far (there l) h).product)
+  end_product_fits d l h = omega (arith, (last_room most limit s v c last d (ended l) i.ends h).product)
 
   pub end_sum_fits : (d : ℕ) → last ≤ at → d ≤ limit → Fits w64 (v + c * d)
-  end_sum_fits d l h = omega (arith, (last_room most limit s v c at d i.so_far (there l) h).sum)
+  end_sum_fits d l h = omega (arith, (last_room most limit s v c last d (ended l) i.ends h).sum)
 
 -- ---- the straight bytes
 module _ (most limit : ℕ) (s : List ℕ) (w : Wide most limit) where
-  pub no_bytes : length s ≡ 0 → Faulty (Missing 0) ≡ number_of most limit s
+  pub no_bytes : length s ≡ 0 → Err (Missing 0) ≡ number_of most limit s
   no_bytes h = missing most limit s 0 1 0 (begins most limit s w) (omega arith)
 
-  pub one_byte : (length s ≡ 0 → ⊥) → get_or s 0 0 < 128 → Value (get_or s 0 0) 1 ≡ number_of most limit s
+  pub one_byte : (length s ≡ 0 → ⊥) → get_or s 0 0 < 128 → numeral (get_or s 0 0) 1 ≡ number_of most limit s
   one_byte h b =
       let e : 0 + 1 * get_or s 0 0 ≡ get_or s 0 0 = omega arith in
       rw e at (first_value most limit s 0 1 0 (begins most limit s w) (omega (arith, w.three)) (omega arith) b refl)
 
-  pub one_missing : 128 ≤ get_or s 0 0 → length s ≡ 1 → Faulty (Missing 1) ≡ number_of most limit s
+  pub one_missing : 128 ≤ get_or s 0 0 → length s ≡ 1 → Err (Missing 1) ≡ number_of most limit s
   one_missing b h = missing most limit s (get_or s 0 0 % 128) 128 1 (after_one most limit s w (omega arith) b) (omega arith)
 
   pub two_zero : (length s ≡ 0 → ⊥) → (length s ≡ 1 → ⊥) → 128 ≤ get_or s 0 0 → get_or s 1 0 < 128 → get_or s 1 0 ≡ 0
-      → Faulty (NotShortest 1) ≡ number_of most limit s
+      → Err (NotShortest 1) ≡ number_of most limit s
   two_zero h k b d z =
       group_zero most limit s (get_or s 0 0 % 128) 128 1 (after_one most limit s w (omega arith) b) (omega (arith, w.three)) (omega arith) d (omega arith) z
 
   pub two_bytes : (length s ≡ 0 → ⊥) → (length s ≡ 1 → ⊥) → 128 ≤ get_or s 0 0 → get_or s 1 0 < 128 → (get_or s 1 0 ≡ 0 → ⊥)
-      → Value (get_or s 0 0 % 128 + 128 * get_or s 1 0) 2 ≡ number_of most limit s
+      → numeral (get_or s 0 0 % 128 + 128 * get_or s 1 0) 2 ≡ number_of most limit s
   two_bytes h k b d z =
       group_value most limit s (get_or s 0 0 % 128) 128 1 (after_one most limit s w (omega arith) b) (omega (arith, w.three)) (omega arith) d z
 
@@ -112,10 +115,7 @@ module _ (most limit : ℕ) (s : List ℕ) (w : Wide most limit) where
   three_bytes h k b d = record { wide = w; two = omega arith; first = b; second = d }
 
 -- ---- a frame
-pub frame_arm : (s : List ℕ) (r a : Number) (x : Frame) → r ≡ number_of 5 15 s → r ≡ a → as_frame a ≡ x → x ≡ frame_of s
-frame_arm s r a x e is d = sym d ∙ ap as_frame (sym is ∙ e)
+pub frame_fits : (s : List ℕ) (v u : ℕ) → numeral v u ≡ number_of 5 15 s → Fits w32 v
+frame_fits s v u e = omega (arith, (number_bounds 15 4 s v u e).below, frame_top)
 
-pub frame_fits : (s : List ℕ) (r : Number) (v u : ℕ) → r ≡ number_of 5 15 s → r ≡ Value v u → Fits w32 v
-frame_fits s r v u e is = omega (arith, (number_bounds 15 4 s v u (sym is ∙ e)).below, frame_top)
-
-pub ruleset laws = (loop_begins, mod_small, turn_missing, turn_zero, turn_value, turn_again, product_fits, sum_fits, weight_fits, end_over, end_zero, end_value, end_product_fits, end_sum_fits, no_bytes, one_byte, one_missing, two_zero, two_bytes, three_bytes, frame_arm, frame_fits, rules)
+pub ruleset laws = (loop_begins, mod_small, turn_missing, turn_zero, turn_value, turn_again, product_fits, sum_fits, weight_fits, end_missing, end_over, end_zero, end_value, end_product_fits, end_sum_fits, no_bytes, one_byte, one_missing, two_zero, two_bytes, three_bytes, frame_fits, rules)

@@ -7,8 +7,7 @@ use Prim.Native.Nat.{ℕ, zero, suc, ◌+◌, ◌<◌, ◌≤◌}
 use native.Mathlib.Omega.{arith}
 use lib.Dec.{ltb}
 use lib.ListN.{length}
-use Rattle.numbers.specs.Reading.{read_from, page_of, frame_of, as_frame, last_byte, group}
-use Rattle.numbers.specs.declared.Number.{Number}
+use Rattle.numbers.specs.Reading.{Number, read_from, page_of, frame_of, last_byte, group}
 
 -- the law for every width
 pub number_prefix : (limit n at : ℕ) (bs rest : List ℕ) → n < length bs → read_from limit n at (bs ++ rest) ≡ read_from limit n at bs
@@ -28,4 +27,4 @@ pub page_prefix : (bs rest : List ℕ) → 10 ≤ length bs → page_of (bs ++ r
 page_prefix bs rest h = number_prefix 1 9 0 bs rest (omega arith)
 
 pub frame_prefix : (bs rest : List ℕ) → 5 ≤ length bs → frame_of (bs ++ rest) ≡ frame_of bs
-frame_prefix bs rest h = ap as_frame (number_prefix 15 4 0 bs rest (omega arith))
+frame_prefix bs rest h = number_prefix 15 4 0 bs rest (omega arith)

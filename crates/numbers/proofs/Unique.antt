@@ -2,7 +2,7 @@
 --
 -- In order: what a byte says that was read as part of a number; a number's higher groups are not 0, since a last byte 0 stands for zero itself alone;
 -- the law.
-use mathlib.Core.Path.{◌≡◌, refl, sym, ap₂, ◌∙◌}
+use mathlib.Core.Path.{◌≡◌, refl, sym, ap, ap₂, ◌∙◌}
 use mathlib.Core.List.{List, [], ◌∷◌}
 use mathlib.Core.Bool.{Bool, true, false, cond, ◌&&◌}
 use Prim.Native.Nat.{ℕ, zero, suc, ◌+◌, ◌*◌, ◌-◌, ◌%◌, ◌<◌, ◌≤◌}
@@ -10,11 +10,10 @@ use native.Mathlib.Omega.{arith}
 use lib.Dec.{ltb, eqb}
 use lib.ListN.{get_or, take}
 use borrow.Author.Tests.{ltb-true, ltb-false, eqb-false}
-use Rattle.numbers.specs.Reading.{read_from, number_of, last_byte, group}
+use Rattle.std.specs.Prelude.{Ok, Err}
+use Rattle.numbers.specs.Reading.{numeral, Number, read_from, number_of, last_byte, group}
 use Rattle.numbers.specs.declared.Fault.TheVariants.{NotShortest, TooLarge}
-use Rattle.numbers.specs.declared.Number.{Number}
-use Rattle.numbers.specs.declared.Number.TheVariants.{Value, Faulty}
-use Rattle.numbers.proofs.Laws.{nothing_of}
+use Rattle.numbers.proofs.Laws.{nothing_of, value_same, used_same}
 
 -- ---- a byte that was read
 positive : (b v : ℕ) → b ≡ v → (b ≡ 0 → ⊥) → 0 < v
@@ -26,22 +25,22 @@ record Last (at b v u : ℕ) : Type 0 where
   used : at + 1 ≡ u
   some : 0 < at → 0 < v
 
-last_of : (at b v u : ℕ) → last_byte at b ≡ Value v u → Last at b v u
+last_of : (at b v u : ℕ) → last_byte at b ≡ numeral v u → Last at b v u
 last_of at b v u e = split (eqb b 0) (ltb 0 at) refl refl e
   where
-    split : (x y : Bool) → eqb b 0 ≡ x → ltb 0 at ≡ y → cond (x && y) (Faulty (NotShortest at)) (Value b (at + 1)) ≡ Value v u → Last at b v u
+    split : (x y : Bool) → eqb b 0 ≡ x → ltb 0 at ≡ y → cond (x && y) (Err (NotShortest at)) (numeral b (at + 1)) ≡ numeral v u → Last at b v u
     split true true p q e =
         let z : ◌≡◌ {A = ℕ} 0 1 = cc in
         absurd (omega arith)
-    split true false p q e = record { value = cc; used = cc; some = λ h. absurd (omega (arith, ltb-false 0 at q)) }
+    split true false p q e = record { value = value_same b (at + 1) v u e; used = used_same b (at + 1) v u e; some = λ h. absurd (omega (arith, ltb-false 0 at q)) }
     split false y p q e =
-        let d : b ≡ v = cc in
-        record { value = d; used = cc; some = λ h. positive b v d (eqb-false b 0 p) }
+        let d : b ≡ v = value_same b (at + 1) v u e in
+        record { value = d; used = used_same b (at + 1) v u e; some = λ h. positive b v d (eqb-false b 0 p) }
 
-at_limit : (limit at b v u : ℕ) → cond (ltb limit b) (Faulty (TooLarge at)) (last_byte at b) ≡ Value v u → Last at b v u
+at_limit : (limit at b v u : ℕ) → cond (ltb limit b) (Err (TooLarge at)) (last_byte at b) ≡ numeral v u → Last at b v u
 at_limit limit at b v u e = split (ltb limit b) e
   where
-    split : (x : Bool) → cond x (Faulty (TooLarge at)) (last_byte at b) ≡ Value v u → Last at b v u
+    split : (x : Bool) → cond x (Err (TooLarge at)) (last_byte at b) ≡ numeral v u → Last at b v u
     split true e =
         let z : ◌≡◌ {A = ℕ} 0 1 = cc in
         absurd (omega arith)
@@ -51,13 +50,13 @@ at_limit limit at b v u e = split (ltb limit b) e
 record More (limit n at b : ℕ) (bs : List ℕ) (v u : ℕ) : Type 0 where
   x : ℕ
   value : 128 * x + b % 128 ≡ v
-  rest : read_from limit n (at + 1) bs ≡ Value x u
+  rest : read_from limit n (at + 1) bs ≡ numeral x u
 
-more_of : (limit n at b : ℕ) (bs : List ℕ) (v u : ℕ) (r : Number) → read_from limit n (at + 1) bs ≡ r → group b r ≡ Value v u → More limit n at b bs v u
-more_of limit n at b bs v u (Value x w) is e =
-    let p : w ≡ u = cc in
-    record { x = x; value = cc; rest = cc }
-more_of limit n at b bs v u (Faulty f) is e =
+more_of : (limit n at b : ℕ) (bs : List ℕ) (v u : ℕ) (r : Number) → read_from limit n (at + 1) bs ≡ r → group b r ≡ numeral v u → More limit n at b bs v u
+more_of limit n at b bs v u (Ok r) is e =
+    let p : r.used ≡ u = used_same (128 * r.value + b % 128) r.used v u e in
+    record { x = r.value; value = value_same (128 * r.value + b % 128) r.used v u e; rest = is ∙ ap (numeral r.value) p }
+more_of limit n at b bs v u (Err f) is e =
     let z : ◌≡◌ {A = ℕ} 0 1 = cc in
     absurd (omega arith)
 
@@ -65,11 +64,11 @@ data Byte (limit n at b : ℕ) (bs : List ℕ) (v u : ℕ) : Type 0 where
   ends : b < 128 → Last at b v u → Byte limit n at b bs v u
   goes : 128 ≤ b → More limit n at b bs v u → Byte limit n at b bs v u
 
-byte_of : (limit n at b : ℕ) (bs : List ℕ) (v u : ℕ) → read_from limit (suc n) at (b ∷ bs) ≡ Value v u → Byte limit n at b bs v u
+byte_of : (limit n at b : ℕ) (bs : List ℕ) (v u : ℕ) → read_from limit (suc n) at (b ∷ bs) ≡ numeral v u → Byte limit n at b bs v u
 unfolding read_from
 byte_of limit n at b bs v u e = split (ltb b 128) refl e
   where
-    split : (x : Bool) → ltb b 128 ≡ x → cond x (last_byte at b) (group b (read_from limit n (at + 1) bs)) ≡ Value v u → Byte limit n at b bs v u
+    split : (x : Bool) → ltb b 128 ≡ x → cond x (last_byte at b) (group b (read_from limit n (at + 1) bs)) ≡ numeral v u → Byte limit n at b bs v u
     split true p e = ends (ltb-true b 128 p) (last_of at b v u e)
     split false p e = goes (ltb-false b 128 p) (more_of limit n at b bs v u (read_from limit n (at + 1) bs) refl e)
 
@@ -81,19 +80,19 @@ record Higher (at v u : ℕ) : Type 0 where
 higher_last : (at b v u : ℕ) → Last at b v u → Higher at v u
 higher_last at b v u l = record { some = l.some; past = omega (arith, l.used) }
 
-no_bytes : (limit n at v u : ℕ) → read_from limit n at [] ≡ Value v u → ⊥
+no_bytes : (limit n at v u : ℕ) → read_from limit n at [] ≡ numeral v u → ⊥
 no_bytes limit n at v u e =
     let h = nothing_of limit n at in
     let z : ◌≡◌ {A = ℕ} 0 1 = cc in
     omega arith
 
-higher : (limit n at : ℕ) (bs : List ℕ) (v u : ℕ) → read_from limit n at bs ≡ Value v u → Higher at v u
+higher : (limit n at : ℕ) (bs : List ℕ) (v u : ℕ) → read_from limit n at bs ≡ numeral v u → Higher at v u
 unfolding read_from
 higher limit n at [] v u e = absurd (no_bytes limit n at v u e)
 higher limit zero at (b ∷ bs) v u e = higher_last at b v u (at_limit limit at b v u e)
 higher limit (suc n) at (b ∷ bs) v u e = by (λ x r. higher limit n (at + 1) bs x u r) (byte_of limit n at b bs v u e)
   where
-    by : ((x : ℕ) → read_from limit n (at + 1) bs ≡ Value x u → Higher (at + 1) x u) → Byte limit n at b bs v u → Higher at v u
+    by : ((x : ℕ) → read_from limit n (at + 1) bs ≡ numeral x u → Higher (at + 1) x u) → Byte limit n at b bs v u → Higher at v u
     by rec (ends h l) = higher_last at b v u l
     by rec (goes h m) =
         let k = rec m.x m.rest in
@@ -116,7 +115,7 @@ same_last at b c bs cs v u w l m =
     let e : b ≡ c = l.value ∙ sym m.value in
     record { used = sym l.used ∙ m.used; bytes = rw (p, q, e) }
 
-pub same : (limit n at : ℕ) (bs cs : List ℕ) → Bytes bs → Bytes cs → (v u w : ℕ) → read_from limit n at bs ≡ Value v u → read_from limit n at cs ≡ Value v w
+pub same : (limit n at : ℕ) (bs cs : List ℕ) → Bytes bs → Bytes cs → (v u w : ℕ) → read_from limit n at bs ≡ numeral v u → read_from limit n at cs ≡ numeral v w
     → Same at bs cs u w
 unfolding read_from
 same limit n at [] cs hb hc v u w e f = absurd (no_bytes limit n at v u e)
@@ -125,7 +124,7 @@ same limit zero at (b ∷ bs) (c ∷ cs) hb hc v u w e f = same_last at b c bs c
 same limit (suc n) at (b ∷ bs) (c ∷ cs) hb hc v u w e f =
     by (λ x p q. same limit n (at + 1) bs cs (λ i. hb (suc i)) (λ i. hc (suc i)) x u w p q) (byte_of limit n at b bs v u e) (byte_of limit n at c cs v w f)
   where
-    by : ((x : ℕ) → read_from limit n (at + 1) bs ≡ Value x u → read_from limit n (at + 1) cs ≡ Value x w → Same (at + 1) bs cs u w)
+    by : ((x : ℕ) → read_from limit n (at + 1) bs ≡ numeral x u → read_from limit n (at + 1) cs ≡ numeral x w → Same (at + 1) bs cs u w)
         → Byte limit n at b bs v u → Byte limit n at c cs v w → Same at (b ∷ bs) (c ∷ cs) u w
     by rec (ends h l) (ends k m) = same_last at b c bs cs v u w l m
     by rec (ends h l) (goes k m) =
@@ -141,7 +140,7 @@ same limit (suc n) at (b ∷ bs) (c ∷ cs) hb hc v u w e f =
         record { used = i.used; bytes = rw (p, q) (ap₂ ◌∷◌ d i.bytes) }
 
 -- a number has one writing
-pub one_writing : (most limit : ℕ) (bs cs : List ℕ) → Bytes bs → Bytes cs → (v u w : ℕ) → number_of most limit bs ≡ Value v u → number_of most limit cs ≡ Value v w
+pub one_writing : (most limit : ℕ) (bs cs : List ℕ) → Bytes bs → Bytes cs → (v u w : ℕ) → number_of most limit bs ≡ numeral v u → number_of most limit cs ≡ numeral v w
     → take u bs ≡ take w cs
 one_writing most limit bs cs hb hc v u w e f =
     let z : (k : ℕ) → k - 0 ≡ k = λ k. omega arith in

@@ -5,7 +5,7 @@ use Prim.Native.Nat.{ℕ, ◌<◌, ◌≤◌}
 use native.Mathlib.Omega.{arith}
 use lib.ListN.{length, set}
 use borrow.Author.Rules.{rules}
-use Rattle.trace.specs.Reading.{check_of, told_into, room_in}
+use Rattle.trace.specs.Reading.{check_of, stop_number, told_into, room_in}
 use Rattle.trace.specs.declared.Checked.{Checked}
 
 pub few_told : (c : Checked) (w : List ℕ) → length w < 3 → w ≡ told_into c w
@@ -22,15 +22,16 @@ few_room (x ∷ []) h = refl
 few_room (x ∷ y ∷ []) h = refl
 few_room (x ∷ y ∷ z ∷ rest) h = absurd (let e : ⊥ = omega arith in e)
 
-pub all_told : (s : List ℕ) (c : Checked) (w : List ℕ)
+pub all_told : (s : List ℕ) (c : Checked) (n : ℕ) (w : List ℕ)
     → c ≡ check_of s
+    → n ≡ stop_number c.refusal
     → 3 ≤ length w
-    → set (set (set w 0 c.operations) 1 c.refusal) 2 c.offset ≡ told_into (check_of s) w
+    → set (set (set w 0 c.operations) 1 n) 2 c.offset ≡ told_into (check_of s) w
 unfolding told_into
-all_told s c [] e h = absurd (let f : ⊥ = omega arith in f)
-all_told s c (x ∷ []) e h = absurd (let f : ⊥ = omega arith in f)
-all_told s c (x ∷ y ∷ []) e h = absurd (let f : ⊥ = omega arith in f)
-all_told s c (x ∷ y ∷ z ∷ rest) e h = rw e refl
+all_told s c n [] e p h = absurd (let f : ⊥ = omega arith in f)
+all_told s c n (x ∷ []) e p h = absurd (let f : ⊥ = omega arith in f)
+all_told s c n (x ∷ y ∷ []) e p h = absurd (let f : ⊥ = omega arith in f)
+all_told s c n (x ∷ y ∷ z ∷ rest) e p h = rw (p, e) refl
 
 pub all_room : (w : List ℕ) → 3 ≤ length w → 1 ≡ room_in w
 unfolding room_in

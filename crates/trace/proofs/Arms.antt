@@ -13,13 +13,12 @@ use lib.Seq.{drop-drop}
 use borrow.Author.Tests.{ne_eqb}
 use borrow.Author.Rules.{rules}
 use borrow.Author.Rules.{part_to_end}
-use Rattle.numbers.specs.Reading.{page_of, frame_of}
+use Rattle.std.specs.Prelude.{Ok, Err}
+use Rattle.refusals.specs.declared.Refusal.TheVariants as refusals
+use Rattle.numbers.specs.Reading.{Number, page_of, frame_of}
+use Rattle.numbers.specs.declared.Numeral.{Numeral}
 use Rattle.numbers.specs.declared.Fault.{Fault}
 use Rattle.numbers.specs.declared.Fault.TheVariants.{Missing, NotShortest, TooLarge}
-use Rattle.numbers.specs.declared.Number.{Number}
-use Rattle.numbers.specs.declared.Number.TheVariants.{Value, Faulty}
-use Rattle.numbers.specs.declared.Frame.{Frame}
-use Rattle.numbers.specs.declared.Frame.TheVariants.{Value as FrameValue, Faulty as FrameFaulty}
 use Rattle.numbers.proofs.Bounds.{page_bounds, frame_bounds}
 use Rattle.trace.specs.Reading.{Parsed, whole, refused, faulty, with_page, with_frame, with_both, operation_of}
 use Rattle.trace.specs.Steps.{step_to, stepped, step_at, step_of}
@@ -39,7 +38,7 @@ by_code code bs page =
     (cond (eqb code 3) (with_page Remove page)
     (cond (eqb code 4) (whole Clear 1)
     (cond (eqb code 5) (with_page Peek page)
-    (refused 4 0)))))
+    (refused refusals.Operation 0)))))
 
 -- ---- nothing is left
 pub ended : (at : ℕ) (s : List ℕ) → length s ≡ 0 → step_to at End ≡ step_at at s
@@ -51,74 +50,74 @@ ended at (b ∷ bs) e =
 
 -- ---- by the code n, where x is what the definition says of it
 pub by_code_lem : (at n : ℕ) (s : List ℕ) (x : Step) → (length s ≡ 0 → ⊥) → get_or s 0 0 ≡ n
-    → stepped at (by_code n (drop 1 s) (page_of (drop 1 s))) ≡ x → x ≡ step_at at s
+    → x ≡ stepped at (by_code n (drop 1 s) (page_of (drop 1 s))) → x ≡ step_at at s
 unfolding step_at operation_of
 by_code_lem at n [] x h e d = absurd (h refl)
-by_code_lem at n (b ∷ bs) x h e d = sym d ∙ rw e
+by_code_lem at n (b ∷ bs) x h e d = d ∙ rw e
 
 pub no_code : (at : ℕ) (s : List ℕ) (x : Step) → (length s ≡ 0 → ⊥) → (get_or s 0 0 ≡ 1 → ⊥) → (get_or s 0 0 ≡ 2 → ⊥) → (get_or s 0 0 ≡ 3 → ⊥)
-    → (get_or s 0 0 ≡ 4 → ⊥) → (get_or s 0 0 ≡ 5 → ⊥) → x ≡ step_to at (Refused 4 at) → x ≡ step_at at s
+    → (get_or s 0 0 ≡ 4 → ⊥) → (get_or s 0 0 ≡ 5 → ⊥) → x ≡ step_to at (Refused refusals.Operation at) → x ≡ step_at at s
 no_code at s x h n1 n2 n3 n4 n5 e =
     by_code_lem at (get_or s 0 0) s x h refl
-    (simp (ne_eqb _ _ n1, ne_eqb _ _ n2, ne_eqb _ _ n3, ne_eqb _ _ n4, ne_eqb _ _ n5) (rw add-zero (sym e)))
+    (simp (ne_eqb _ _ n1, ne_eqb _ _ n2, ne_eqb _ _ n3, ne_eqb _ _ n4, ne_eqb _ _ n5) (rw add-zero e))
 
 -- ---- a fault in a number is refusal 5, at the operation's first byte
-stepped_faulty : (at start : ℕ) (f : Fault) → stepped at (faulty start f) ≡ step_to at (Refused 5 at)
+stepped_faulty : (at start : ℕ) (f : Fault) → stepped at (faulty start f) ≡ step_to at (Refused refusals.Number at)
 stepped_faulty at start (Missing p) = rw add-zero
 stepped_faulty at start (NotShortest p) = rw add-zero
 stepped_faulty at start (TooLarge p) = rw add-zero
 
 -- ---- after the code n: r is what was read as a page, and is a
 pub page_arm : (at n : ℕ) (s : List ℕ) (r a : Number) (x : Step) → (length s ≡ 0 → ⊥) → get_or s 0 0 ≡ n → r ≡ page_of (part s 1) → r ≡ a
-    → stepped at (by_code n (drop 1 s) a) ≡ x → x ≡ step_at at s
+    → x ≡ stepped at (by_code n (drop 1 s) a) → x ≡ step_at at s
 page_arm at n s r a x h e is arm d =
     by_code_lem at n s x h e
-    (ap (λ (p : Number). stepped at (by_code n (drop 1 s) p)) (sym (ap page_of (part_to_end s 1)) ∙ sym is ∙ arm) ∙ d)
+    (d ∙ sym (ap (λ (p : Number). stepped at (by_code n (drop 1 s) p)) (sym (ap page_of (part_to_end s 1)) ∙ sym is ∙ arm)))
 
-pub page_refused : (at n : ℕ) (s : List ℕ) (r : Number) (f : Fault) (x : Step) → (length s ≡ 0 → ⊥) → get_or s 0 0 ≡ n → r ≡ page_of (part s 1) → r ≡ Faulty f
-    → by_code n (drop 1 s) (Faulty f) ≡ faulty 1 f → x ≡ step_to at (Refused 5 at) → x ≡ step_at at s
+pub page_refused : (at n : ℕ) (s : List ℕ) (r : Number) (f : Fault) (x : Step) → (length s ≡ 0 → ⊥) → get_or s 0 0 ≡ n → r ≡ page_of (part s 1) → r ≡ Err f
+    → by_code n (drop 1 s) (Err f) ≡ faulty 1 f → x ≡ step_to at (Refused refusals.Number at) → x ≡ step_at at s
 page_refused at n s r f x h e is arm d q =
-    page_arm at n s r (Faulty f) x h e is arm (ap (stepped at) d ∙ stepped_faulty at 1 f ∙ sym q)
+    page_arm at n s r (Err f) x h e is arm (q ∙ sym (stepped_faulty at 1 f) ∙ sym (ap (stepped at) d))
 
 -- where its page ends
-page_end : (s : List ℕ) (r : Number) (v u : ℕ) → (length s ≡ 0 → ⊥) → r ≡ page_of (part s 1) → r ≡ Value v u → 1 + u ≤ length s
-page_end s r v u h is arm =
-    omega (arith, (page_bounds (drop 1 s) v u (sym arm ∙ is ∙ ap page_of (part_to_end s 1))).there, length-drop 1 s)
+page_end : (s : List ℕ) (r : Number) (p : Numeral ℕ) → (length s ≡ 0 → ⊥) → r ≡ page_of (part s 1) → r ≡ Ok p → 1 + p.used ≤ length s
+page_end s r p h is arm =
+    omega (arith, (page_bounds (drop 1 s) p.value p.used (sym arm ∙ is ∙ ap page_of (part_to_end s 1))).there, length-drop 1 s)
 
--- ---- an insert whose page v took u bytes: f is what was read after it, and is a
-pub frame_arm : (at : ℕ) (s : List ℕ) (r : Number) (v u : ℕ) (f a : Frame) (x : Step) → (length s ≡ 0 → ⊥) → get_or s 0 0 ≡ 2 → r ≡ page_of (part s 1) → r ≡ Value v u
-    → f ≡ frame_of (part s (1 + u)) → f ≡ a → stepped at (with_frame v (1 + u) a) ≡ x → x ≡ step_at at s
-frame_arm at s r v u f a x h e is arm is-frame frame-arms d =
-    page_arm at 2 s r (Value v u) x h e is arm
-    (ap (λ (y : Frame). stepped at (with_frame v (1 + u) y))
-    (ap frame_of (drop-drop u 1 s) ∙ sym (ap frame_of (part_to_end s (1 + u))) ∙ sym is-frame ∙ frame-arms) ∙ d)
+-- ---- an insert whose page is p: f is what was read after it, and is a
+pub frame_arm : (at : ℕ) (s : List ℕ) (r : Number) (p : Numeral ℕ) (f a : Number) (x : Step) → (length s ≡ 0 → ⊥) → get_or s 0 0 ≡ 2 → r ≡ page_of (part s 1) → r ≡ Ok p
+    → f ≡ frame_of (part s (1 + p.used)) → f ≡ a → x ≡ stepped at (with_frame p.value (1 + p.used) a) → x ≡ step_at at s
+frame_arm at s r p f a x h e is arm is-frame frame-arms d =
+    let read : a ≡ frame_of (drop p.used (drop 1 s))
+    = sym frame-arms ∙ is-frame ∙ ap frame_of (part_to_end s (1 + p.used)) ∙ sym (ap frame_of (drop-drop p.used 1 s)) in
+    page_arm at 2 s r (Ok p) x h e is arm (d ∙ ap (λ (y : Number). stepped at (with_frame p.value (1 + p.used) y)) read)
 
-pub frame_refused : (at : ℕ) (s : List ℕ) (r : Number) (v u : ℕ) (f : Frame) (g : Fault) (x : Step) → (length s ≡ 0 → ⊥) → get_or s 0 0 ≡ 2 → r ≡ page_of (part s 1)
-    → r ≡ Value v u → f ≡ frame_of (part s (1 + u)) → f ≡ FrameFaulty g → x ≡ step_to at (Refused 5 at) → x ≡ step_at at s
-frame_refused at s r v u f g x h e is arm is-frame frame-arms q =
-    frame_arm at s r v u f (FrameFaulty g) x h e is arm is-frame frame-arms (stepped_faulty at (1 + u) g ∙ sym q)
+pub frame_refused : (at : ℕ) (s : List ℕ) (r : Number) (p : Numeral ℕ) (f : Number) (g : Fault) (x : Step) → (length s ≡ 0 → ⊥) → get_or s 0 0 ≡ 2 → r ≡ page_of (part s 1)
+    → r ≡ Ok p → f ≡ frame_of (part s (1 + p.used)) → f ≡ Err g → x ≡ step_to at (Refused refusals.Number at) → x ≡ step_at at s
+frame_refused at s r p f g x h e is arm is-frame frame-arms q =
+    frame_arm at s r p f (Err g) x h e is arm is-frame frame-arms (q ∙ sym (stepped_faulty at (1 + p.used) g))
 
 -- where its frame ends
-frame_end : (s : List ℕ) (k : ℕ) (f : Frame) (v u : ℕ) → k ≤ length s → f ≡ frame_of (part s k) → f ≡ FrameValue v u → k + u ≤ length s
-frame_end s k f v u h is arm =
-    omega (arith, (frame_bounds (drop k s) v u (sym arm ∙ is ∙ ap frame_of (part_to_end s k))).there, length-drop k s)
+frame_end : (s : List ℕ) (k : ℕ) (f : Number) (n : Numeral ℕ) → k ≤ length s → f ≡ frame_of (part s k) → f ≡ Ok n → k + n.used ≤ length s
+frame_end s k f n h is arm =
+    omega (arith, (frame_bounds (drop k s) n.value n.used (sym arm ∙ is ∙ ap frame_of (part_to_end s k))).there, length-drop k s)
 
 -- ---- so the sums of the code fit
-module _ (at : ℕ) (s : List ℕ) (r : Number) (v u : ℕ) (p : at + length s < 2 ^ 64) (h : length s ≡ 0 → ⊥) (is : r ≡ page_of (part s 1)) (arm : r ≡ Value v u) where
-  pub past_there : 1 + u ≤ length s
-  past_there = page_end s r v u h is arm
+module _ (at : ℕ) (s : List ℕ) (r : Number) (p : Numeral ℕ) (w : at + length s < 2 ^ 64) (h : length s ≡ 0 → ⊥) (is : r ≡ page_of (part s 1)) (arm : r ≡ Ok p) where
+  pub past_there : 1 + p.used ≤ length s
+  past_there = page_end s r p h is arm
 
-  pub past_fits : Fits w64 (1 + u)
+  pub past_fits : Fits w64 (1 + p.used)
   past_fits = omega (arith, past_there)
 
-  pub moved_fits : Fits w64 (at + (1 + u))
+  pub moved_fits : at + (1 + p.used) < 2 ^ 64
   moved_fits = omega (arith, past_there)
 
-  pub end_fits : (f : Frame) (w k : ℕ) → f ≡ frame_of (part s (1 + u)) → f ≡ FrameValue w k → Fits w64 (1 + u + k)
-  end_fits f w k is-frame frame-arms = omega (arith, frame_end s (1 + u) f w k past_there is-frame frame-arms)
+  pub end_fits : (f : Number) (n : Numeral ℕ) → f ≡ frame_of (part s (1 + p.used)) → f ≡ Ok n → Fits w64 (1 + p.used + n.used)
+  end_fits f n is-frame frame-arms = omega (arith, frame_end s (1 + p.used) f n past_there is-frame frame-arms)
 
-  pub inserted_fits : (f : Frame) (w k : ℕ) → f ≡ frame_of (part s (1 + u)) → f ≡ FrameValue w k → Fits w64 (at + (1 + u + k))
-  inserted_fits f w k is-frame frame-arms = omega (arith, frame_end s (1 + u) f w k past_there is-frame frame-arms)
+  pub inserted_fits : (f : Number) (n : Numeral ℕ) → f ≡ frame_of (part s (1 + p.used)) → f ≡ Ok n → at + (1 + p.used + n.used) < 2 ^ 64
+  inserted_fits f n is-frame frame-arms = omega (arith, frame_end s (1 + p.used) f n past_there is-frame frame-arms)
 
 -- ---- over the whole trace
 pub at_end_fact : (at : ℕ) (s : List ℕ) → length s ≤ at → step_to at End ≡ step_of at s

@@ -7,6 +7,8 @@ use native.Mathlib.Omega.{arith}
 use lib.ListN.{length, drop, length-drop}
 use lib.Seq.{drop-drop}
 use borrow.Author.Rules.{part_to_end}
+use Rattle.std.specs.Prelude.{Option, Some, None}
+use Rattle.refusals.specs.declared.Refusal.{Refusal}
 use Rattle.trace.specs.Reading.{Parsed, whole, refused, operation_of, Reading, reading, read_from}
 use Rattle.trace.specs.Steps.{stepped, step_at, step_of}
 use Rattle.trace.specs.declared.Operation.{Operation}
@@ -28,15 +30,15 @@ pub record Moved (s : List ℕ) (at c : ℕ) (op : Operation) : Type 0 where
   pub is : from s at ≡ added op (from s c)
 
 -- the cursor stays where it was
-pub record Stayed (s : List ℕ) (at c refusal offset : ℕ) : Type 0 where
+pub record Stayed (s : List ℕ) (at c : ℕ) (refusal : Option Refusal) (offset : ℕ) : Type 0 where
   pub stays : c ≡ at
   pub is : from s at ≡ reading [] refusal offset
 
 -- a cursor at the place at found f, and is at the place c then
 abbrev pub Turn : List ℕ → ℕ → ℕ → Found → Type 0
 Turn s at c (Read op) = Moved s at c op
-Turn s at c End = Stayed s at c 0 at
-Turn s at c (Refused number offset) = Stayed s at c number offset
+Turn s at c End = Stayed s at c None at
+Turn s at c (Refused r offset) = Stayed s at c (Some r) offset
 
 abbrev TurnOf : List ℕ → ℕ → Step → Type 0
 TurnOf s at x = Turn s at x.cursor.at x.found
@@ -55,8 +57,8 @@ turn_by s at b bs (whole op used) e is =
           ∙ read_whole at b bs op used is
           ∙ ap (λ (t : List ℕ). added op (read_from (at + used) 0 t)) d;
     }
-turn_by s at b bs (refused number place) e is =
-    record { stays = refl; is = ap (read_from at 0) e ∙ read_refused at b bs number place is }
+turn_by s at b bs (refused r place) e is =
+    record { stays = refl; is = ap (read_from at 0) e ∙ read_refused at b bs r place is }
 
 turn_at : (s : List ℕ) (at : ℕ) → TurnOf s at (step_of at s)
 unfolding step_at

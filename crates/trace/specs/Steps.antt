@@ -15,7 +15,7 @@ step_to at f = record { cursor = record { at = at }; found = f }
 -- what a cursor at the offset `at` finds
 abbrev pub stepped : ℕ → Parsed → Step
 stepped at (whole op used) = step_to (at + used) (Read op)
-stepped at (refused number place) = step_to at (Refused number (at + place))
+stepped at (refused r place) = step_to at (Refused r (at + place))
 
 -- a cursor at the offset `at`, and the rest of the trace from there
 unfoldable pub step_at : ℕ → List ℕ → Step

@@ -2,10 +2,11 @@
 #![tactic(auto)]
 
 ghost use Rattle.std.specs.Prelude.{◌≡◌, ◌+◌, ◌<◌, ◌^◌, length};
-ghost use Rattle.trace.specs.Reading.{check_of, told_into, room_in};
+ghost use Rattle.trace.specs.Reading.{check_of, stop_number, told_into, room_in};
 ghost use Rattle.trace.specs.Steps.{step_to, step_at, step_of};
 
-use numbers::{Frame, Number};
+use numbers::Numeral;
+use refusals::Refusal;
 
 // 1 get, 2 insert, 3 remove, 4 clear, 5 peek; then page (1, 2, 3, 5) and frame (2).
 #[derive(Clone, Copy)]
@@ -23,12 +24,13 @@ pub struct Cursor {
     pub at: usize,
 }
 
-// What stands at a cursor: an operation, the trace's end, or a refusal 4 or 5 with its offset.
+// What stands at a cursor: an operation, the trace's end, or a refusal 4 or 5 with its offset. It is an enum of its own and
+// no Result of an Option, since a loop over a trace goes on in three ways, and an enum inside an enum is kept in memory.
 #[derive(Clone, Copy)]
 pub enum Found {
     Read(Operation),
     End,
-    Refused { number: u8, offset: usize },
+    Refused { refusal: Refusal, offset: usize },
 }
 
 // The cursor, moved past an operation that was read, and else where it was, with what stood there.
@@ -38,12 +40,12 @@ pub struct Step {
     pub found: Found,
 }
 
-// What the check of a trace tells: how many operations read whole, the refusal that stopped it (0 for none), and that refusal's
-// offset (the trace's length for none).
+// What the check of a trace tells: how many operations read whole, the refusal that stopped it, and that refusal's offset (the
+// trace's length for none).
 #[derive(Clone, Copy)]
 pub struct Checked {
     pub operations: usize,
-    pub refusal: u8,
+    pub refusal: Option<Refusal>,
     pub offset: usize,
 }
 
@@ -71,11 +73,10 @@ impl Cursor {
 
     // The operation at the start of `rest`, which is the rest of the trace from this cursor on. What follows the code is read as a
     // page before the code is looked at: with one call of the reader the compiler puts all of it into the caller's loop.
-    pub fn next(mut self, rest: &[u8]) -> Step
+    pub fn next(self, rest: &[u8]) -> Step
         requires { self.at + length rest.now < 2 ^ 64 }
         ensures { result ≡ step_at self.at rest.now }
     {
-        let at = self.at;
         if rest.len() == 0 {
             return Step {
                 cursor: self,
@@ -86,75 +87,61 @@ impl Cursor {
         let number = numbers::read_page(&rest[1..]);
         match code {
             1 => {
-                let Number::Value { value: page, used } = number else {
-                    return self.refuse(5, at);
+                let Ok(Numeral { value: page, used }) = number else {
+                    return self.refuse(Refusal::Number);
                 };
-                let past = 1 + used;
-                self.at = at + past;
-                Step {
-                    cursor: self,
-                    found: Found::Read(Operation::Get { page }),
-                }
+                self.past(Operation::Get { page }, 1 + used)
             }
             2 => {
-                let Number::Value { value: page, used } = number else {
-                    return self.refuse(5, at);
+                let Ok(Numeral { value: page, used }) = number else {
+                    return self.refuse(Refusal::Number);
                 };
                 let start = 1 + used;
-                let Frame::Value {
-                    value: frame,
-                    used: more,
-                } = numbers::read_frame(&rest[start..])
-                else {
-                    return self.refuse(5, at);
+                let after = numbers::read_frame(&rest[start..]);
+                let Ok(Numeral { value: frame, used }) = after else {
+                    return self.refuse(Refusal::Number);
                 };
-                let past = start + more;
-                self.at = at + past;
-                Step {
-                    cursor: self,
-                    found: Found::Read(Operation::Insert { page, frame }),
-                }
+                self.past(Operation::Insert { page, frame }, start + used)
             }
             3 => {
-                let Number::Value { value: page, used } = number else {
-                    return self.refuse(5, at);
+                let Ok(Numeral { value: page, used }) = number else {
+                    return self.refuse(Refusal::Number);
                 };
-                let past = 1 + used;
-                self.at = at + past;
-                Step {
-                    cursor: self,
-                    found: Found::Read(Operation::Remove { page }),
-                }
+                self.past(Operation::Remove { page }, 1 + used)
             }
-            4 => {
-                self.at = at + 1;
-                Step {
-                    cursor: self,
-                    found: Found::Read(Operation::Clear),
-                }
-            }
+            4 => self.past(Operation::Clear, 1),
             5 => {
-                let Number::Value { value: page, used } = number else {
-                    return self.refuse(5, at);
+                let Ok(Numeral { value: page, used }) = number else {
+                    return self.refuse(Refusal::Number);
                 };
-                let past = 1 + used;
-                self.at = at + past;
-                Step {
-                    cursor: self,
-                    found: Found::Read(Operation::Peek { page }),
-                }
+                self.past(Operation::Peek { page }, 1 + used)
             }
-            _ => self.refuse(4, at),
+            _ => self.refuse(Refusal::Operation),
         }
     }
 
-    // A refusal: the cursor stays.
-    fn refuse(self, number: u8, offset: usize) -> Step
-        ensures { result ≡ step_to self.at (Found.Refused number offset) }
+    // An operation of so many bytes: the cursor moves past it.
+    fn past(mut self, operation: Operation, used: usize) -> Step
+        requires { self.at + used < 2 ^ 64 }
+        ensures { result ≡ step_to (self.at + used) (Found.Read operation) }
+    {
+        self.at += used;
+        Step {
+            cursor: self,
+            found: Found::Read(operation),
+        }
+    }
+
+    // A refusal, at the operation's first byte: the cursor stays.
+    fn refuse(self, refusal: Refusal) -> Step
+        ensures { result ≡ step_to self.at (Found.Refused refusal self.at) }
     {
         Step {
             cursor: self,
-            found: Found::Refused { number, offset },
+            found: Found::Refused {
+                refusal,
+                offset: self.at,
+            },
         }
     }
 }
@@ -168,8 +155,7 @@ pub fn check(trace: &[u8]) -> Checked
     loop {
         let at = cursor.at;
         let step = cursor.next(&trace[at..]);
-        let found = step.found;
-        match found {
+        match step.found {
             Found::Read(_) => {
                 cursor = step.cursor;
                 operations += 1;
@@ -177,14 +163,14 @@ pub fn check(trace: &[u8]) -> Checked
             Found::End => {
                 return Checked {
                     operations,
-                    refusal: 0,
+                    refusal: None,
                     offset: at,
                 };
             }
-            Found::Refused { number, offset } => {
+            Found::Refused { refusal, offset } => {
                 return Checked {
                     operations,
-                    refusal: number,
+                    refusal: Some(refusal),
                     offset,
                 };
             }
@@ -196,24 +182,21 @@ pub fn check(trace: &[u8]) -> Checked
 pub fn trace_operations(trace: &[u8]) -> u64
     ensures { result ≡ (check_of trace.now).operations }
 {
-    let c = check(trace);
-    c.operations as u64
+    check(trace).operations as u64
 }
 
 // The number of the refusal that stops a trace, or 0.
 pub fn trace_refusal(trace: &[u8]) -> u64
-    ensures { result ≡ (check_of trace.now).refusal }
+    ensures { result ≡ stop_number (check_of trace.now).refusal }
 {
-    let c = check(trace);
-    c.refusal as u64
+    number_or_0(check(trace).refusal)
 }
 
 // Where the operation that stops a trace starts, or the trace's length.
 pub fn trace_offset(trace: &[u8]) -> u64
     ensures { result ≡ (check_of trace.now).offset }
 {
-    let c = check(trace);
-    c.offset as u64
+    check(trace).offset as u64
 }
 
 // All three in one pass, into the first three words of `out`: the operations, the refusal, the offset. Answers 1; or 0
@@ -227,7 +210,17 @@ pub fn trace_check_all(trace: &[u8], out: &mut [u64]) -> u64
     }
     let c = check(trace);
     out[0] = c.operations as u64;
-    out[1] = c.refusal as u64;
+    out[1] = number_or_0(c.refusal);
     out[2] = c.offset as u64;
     1
+}
+
+// The number of a refusal, 0 for none.
+fn number_or_0(refusal: Option<Refusal>) -> u64
+    ensures { result ≡ stop_number refusal }
+{
+    match refusal {
+        Some(r) => r.number() as u64,
+        None => 0,
+    }
 }

@@ -4,7 +4,7 @@
 #![tactic(auto)]
 
 ghost use Rattle.std.specs.Prelude.{◌≡◌};
-ghost use Rattle.trace.specs.Reading.{check_of, told_into, room_in};
+ghost use Rattle.trace.specs.Reading.{check_of, stop_number, told_into, room_in};
 
 // How many operations of a trace read whole.
 #[unsafe(no_mangle)]
@@ -17,7 +17,7 @@ pub extern "C" fn trace_operations(trace: &[u8]) -> u64
 // The number of the refusal that stops a trace, or 0.
 #[unsafe(no_mangle)]
 pub extern "C" fn trace_refusal(trace: &[u8]) -> u64
-    ensures { result ≡ (check_of trace.now).refusal }
+    ensures { result ≡ stop_number (check_of trace.now).refusal }
 {
     trace::trace_refusal(trace)
 }

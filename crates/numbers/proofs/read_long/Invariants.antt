@@ -1,11 +1,7 @@
 -- `numbers::read_long` meets its contract. The loop's invariant: what was read so far, in front of what the definition says of the rest, is the whole
--- answer. The measure is the places that are left before the last. Assumes nothing.
-use Prim.Native.Nat.{◌-◌}
+-- answer. Assumes nothing.
 use Rattle.numbers.proofs.Loop.{Turn}
 use Rattle.numbers.proofs.read_long.Given as goal
 
 abbrev pub invariant-loop-at : goal.invariant-loop-at
 invariant-loop-at l = Turn l.most l.limit l.s l.last l.value l.scale l.at
-
-abbrev pub decreases-loop-at : goal.decreases-loop-at
-decreases-loop-at l = l.last - l.at
