@@ -1,13 +1,16 @@
--- Rows of RULES 8 and 9: the worked examples of `numbers` and `trace`, the program's lines and its refusals. Assumes
+-- Rows of RULES 3, 8 and 9: the numbers of the refusals, the worked examples of `numbers` and `trace`, the program's lines and its refusals. Assumes
 -- nothing.
 use mathlib.Core.List.{List, [], ◌∷◌, ◌++◌, map}
 use mathlib.Core.Bool.{true}
 use Prim.Native.Nat.{◌-◌, ◌^◌}
+use Rattle.std.specs.Prelude.{Some, None}
+use Rattle.refusals.specs.declared.Refusal.TheVariants as refusals
+use Rattle.refusals.specs.Refusals.{number_of}
 use Rattle.numbers.specs.Reading.{page_of, frame_of}
 use Rattle.numbers.specs.Widths.{top}
 use Rattle.numbers.proofs.Examples as numbers_examples
 use Rattle.trace.specs.declared.Operation.TheVariants.{Get, Insert, Remove, Clear, Peek}
-use Rattle.trace.specs.Reading.{reading_of, check_of}
+use Rattle.trace.specs.Reading.{reading_of, check_of, stop_number}
 use Rattle.trace.specs.Steps.{step_of}
 use Rattle.trace.proofs.Examples as trace_examples
 use Rattle.rules.specs.Calls.{nowhere, Holds, Number, Made, Refused}
@@ -25,6 +28,10 @@ trace_rows = map (λ e. checks (check_of e.bytes) (step_of e.at e.bytes) is chec
 
 abbrev pub byte_rows : List Row
 byte_rows =
+    -- "Paragraph 3.N is refusal N" (RULES 3), and 0 for none
+    (numbers (map number_of (refusals.Capacity ∷ refusals.Area ∷ refusals.State ∷ refusals.Operation ∷ refusals.Number ∷ refusals.Room ∷ [])) is
+    numbers (1 ∷ 2 ∷ 3 ∷ 4 ∷ 5 ∷ 6 ∷ [])) ∷
+    (numbers (map stop_number (None ∷ Some refusals.Room ∷ [])) is numbers (0 ∷ 6 ∷ [])) ∷
     -- "Codes: 1 get, 2 insert, 3 remove, 4 clear, 5 peek; then page (1, 2, 3, 5) and frame (2)" (RULES 8.1)
     (operations (reading_of (0x01 ∷ 0x05 ∷ 0x02 ∷ 0x06 ∷ 0x0B ∷ 0x03 ∷ 0x07 ∷ 0x04 ∷ 0x05 ∷ 0x08 ∷ [])).operations is
     operations (Get 5 ∷ Insert 6 11 ∷ Remove 7 ∷ Clear ∷ Peek 8 ∷ [])) ∷

@@ -6,8 +6,7 @@ use mathlib.Core.List.{List, map}
 use mathlib.Core.Bool.{Bool, true, false}
 use mathlib.Core.Option.{Option}
 use Prim.Native.Nat.{ℕ}
-use Rattle.numbers.specs.declared.Number.{Number}
-use Rattle.numbers.specs.declared.Frame.{Frame}
+use Rattle.numbers.specs.Reading.{Number}
 use Rattle.trace.specs.declared.Checked.{Checked}
 use Rattle.trace.specs.declared.Step.{Step}
 use Rattle.trace.specs.declared.Operation.{Operation}
@@ -26,7 +25,7 @@ pub data Shown : Type 0 where
   -- what the program prints
   prints : List ℕ → Shown
   -- numbers read
-  reads : Number → Frame → Shown
+  reads : Number → Number → Shown
   -- a trace check, and a step of a cursor; the operations of a trace
   checks : Checked → Step → Shown
   operations : List Operation → Shown

@@ -24,7 +24,7 @@ module _ {S : Type 0} where
         state = a.state;
         counts = ap (plus (counted d.answer)) a.counts;
       }
-  at_agrees does o (refused number place) f g s h = record { done = refl; refusal = refl; offset = refl; answers = refl; state = refl; counts = refl }
+  at_agrees does o (refused r place) f g s h = record { done = refl; refusal = refl; offset = refl; answers = refl; state = refl; counts = refl }
 
   -- from any place, of which k bytes belong to an operation that was read
   pub batch_runs : (does : Call → S → Done S) (o k : ℕ) (bs : List ℕ) (s : S) → Agrees does s (read_from o k bs) (run_from does o k bs s)

@@ -2,6 +2,7 @@
 use Prim.Native.Nat.{ℕ, zero, suc, ◌+◌, ◌-◌}
 use mathlib.Core.List.{List, [], ◌∷◌}
 use Rattle.std.specs.Prelude.{cond, eqb}
+use Rattle.refusals.specs.Refusals.{number_of}
 use Rattle.numbers.specs.Reading.{read_from}
 use Rattle.trace.specs.declared.Operation.{Operation}
 use Rattle.trace.specs.declared.Operation.TheVariants.{Get as GetOp, Insert as InsertOp, Remove as RemoveOp, Clear as ClearOp, Peek as PeekOp}
@@ -40,7 +41,7 @@ module _ {S : Type 0} where
   -- what stands at the offset o; `rest k` runs on behind the first byte, of which the first k belong to this operation
   unfoldable pub run_at : (Call → S → Done S) → ℕ → Parsed → (ℕ → S → Batched S) → S → Batched S
   run_at does o (whole op used) rest s = let d = does (call_of op) s in answer_then d.answer (rest (used - 1) d.state)
-  run_at does o (refused number place) rest s = stopped number (o + place) s
+  run_at does o (refused r place) rest s = stopped (number_of r) (o + place) s
 
   -- the bytes from the offset o on, of which the first k belong to an operation that was run
   unfoldable pub run_from : (Call → S → Done S) → ℕ → ℕ → List ℕ → S → Batched S

@@ -2,14 +2,14 @@
 --
 -- "The program reads a kind byte (1 ARC, 2 CAR), c (a number in a frame's form), then operations, from standard
 -- input." (RULES 9.1)
-use Rattle.std.specs.Prelude.{ℕ, ◌+◌, List, [], ◌∷◌, ◌++◌, Bool, true, false, cond, ltb, eqb, drop}
+use Rattle.std.specs.Prelude.{ℕ, ◌+◌, List, [], ◌∷◌, ◌++◌, Bool, true, false, cond, ltb, eqb, drop, Ok, Err}
 use Prim.Native.Char.{code}
 use Prim.Native.String.{String, [] as end, ◌∷◌ as ◌then◌}
 use Rattle.std.proofs.Math.Option.{Option, some, none}
-use Rattle.numbers.specs.declared.Frame.{Frame}
-use Rattle.numbers.specs.declared.Frame.TheVariants.{Value as FrameValue, Faulty as FrameFaulty}
+use Rattle.refusals.specs.Refusals.{number_of}
 use Rattle.numbers.specs.Reading.{read_from, frame_of}
-use Rattle.trace.specs.Reading.{fault_number, fault_place}
+use Rattle.numbers.specs.Reading as numbers
+use Rattle.trace.specs.Reading.{fault_refusal, fault_place}
 use Rattle.rules.specs.declared.Kind.{Kind}
 use Rattle.rules.specs.declared.Kind.TheVariants as kinds
 use Rattle.rules.specs.State.{first, second}
@@ -91,10 +91,10 @@ unfolding replay text_of
 sized true k c used bs = text_of (Stopped 1 1)
 sized false k c used bs = replay k c (1 + used) (drop used bs)
 
-unfoldable pub with_capacity : Kind → Frame → List ℕ → List ℕ
+unfoldable pub with_capacity : Kind → numbers.Number → List ℕ → List ℕ
 unfolding sized text_of
-with_capacity k (FrameValue c used) bs = sized (ltb max_replayed c) k c used bs
-with_capacity k (FrameFaulty f) bs = text_of (Stopped (fault_number f) (1 + fault_place 0 f))
+with_capacity k (Ok c) bs = sized (ltb max_replayed c.value) k c.value c.used bs
+with_capacity k (Err f) bs = text_of (Stopped (number_of (fault_refusal f)) (1 + fault_place 0 f))
 
 -- "4 OPERATION .. program: kind byte not 1 or 2" (RULES 3.4)
 unfoldable pub with_kind : Option Kind → List ℕ → List ℕ

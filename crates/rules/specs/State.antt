@@ -5,6 +5,8 @@
 use Rattle.std.specs.Prelude.{ℕ, ◌+◌, ◌^◌, ◌<◌, ◌≤◌, List, [], ◌∷◌, ◌++◌, map, Bool, cond, leb, eqb, length}
 use Rattle.std.proofs.Math.Option.{Option, some, none}
 use Rattle.rules.specs.Lists.{times, Each}
+pub use Rattle.rules.specs.declared.Side.{Side}
+pub use Rattle.rules.specs.declared.Side.TheVariants.{First as first, Second as second}
 
 -- ---- residents
 -- a resident: its page and frame, and what its policy keeps of it besides
@@ -47,11 +49,7 @@ pub record Lists (X : Type 0) : Type 0 where
   pub B1 : List ℕ
   pub B2 : List ℕ
 
--- T1 and B1, or T2 and B2
-pub data Side : Type 0 where
-  first : Side
-  second : Side
-
+-- T1 and B1, or T2 and B2: the code's own type, under the names of the rules
 abbrev pub choose : {A : Type 0} → Side → A → A → A
 choose first a b = a
 choose second a b = b
