@@ -1,8 +1,7 @@
 -- The test of the residents, for any words. Assumes nothing.
 use Rattle.std.specs.Prelude.{Bool, true, false, cond, List, [], ◌∷◌, ℕ, ◌+◌, ◌^◌, eqb, ltb}
-use Rattle.cells.specs.Cells.{In}
 use Rattle.rings.specs.Walks.{ring_test}
-use Rattle.residents.specs.Residents.{links_of, count_of, frame_of, list_of, bit_of, lists_of, Room}
+use Rattle.residents.specs.Residents.{links_of, count_of, frame_of, list_of, bit_of, lists_of}
 
 -- no count passes c, and the three together are c
 unfoldable pub counts_test : List ℕ → ℕ → Bool
@@ -31,8 +30,3 @@ side_test w c i = cond (ring_at w c i) (slots_test w c i (lists_of w c i)) false
 unfoldable pub residents_test : List ℕ → ℕ → Bool
 residents_test w c =
     cond (counts_test w c) (cond (side_test w c 0) (cond (side_test w c 1) (ring_at w c 2) false) false) false
-
--- what a step of a walk asks: the cell a is there
-pub record CanStep (w : List ℕ) (c a : ℕ) : Type 0 where
-  pub room : Room w c
-  pub cell : In (links_of c w) a

@@ -12,10 +12,9 @@ ghost use Rattle.std.specs.Prelude.{◌≡◌, ◌+◌, ◌*◌, ◌<◌};
 ghost use Rattle.tails.specs.Tails.{with_tail};
 ghost use Rattle.cells.specs.Cells.{next_of, prev_of};
 ghost use Rattle.rings.specs.Rings.{CanFront, CanEnd};
-ghost use Rattle.rings.specs.Walks.{ahead, behind};
 ghost use Rattle.residents.specs.Residents.{links_of, count_of, frame_of, list_of, bit_of, Room};
 ghost use Rattle.residents.specs.Changes.{with_frame, with_list, with_bit, with_slot, recounted, shifted_front, shifted_end, CanRecount, CanShift, promoted, sent_back, freed, added_front, added_end, Added, fresh_links, made, IsResident, CanAdd, CanExchange, HasSlot, HasList};
-ghost use Rattle.residents.specs.Tests.{counts_test, ring_at, slot_test, side_test, residents_test, CanStep};
+ghost use Rattle.residents.specs.Tests.{counts_test, ring_at, slot_test, side_test, residents_test};
 
 // How many slots list i has.
 pub fn count(w: &[u64], c: usize, i: usize) -> usize
@@ -121,7 +120,9 @@ fn recount(w: &mut [u64], c: usize, i: usize, j: usize)
     w[j] = w[j] + 1;
 }
 
-// Slot e goes from list i to the front of list j. Its words stay.
+// Slot e goes from list i to the front of list j. Its words stay. Front and end stay two functions, here and in those
+// built on these: each asks and promises by words of its own (CanFront and fronted, CanEnd and ended), which area and
+// store cite, and a caller always knows the end: a parameter would have each contract ask which end it is.
 fn shift_front(w: &mut [u64], c: usize, i: usize, j: usize, e: usize)
     requires { CanShift w.old c i j (CanFront (links_of c w.old) (c + j) e) }
     ensures { w.new ≡ shifted_front c i j e w.old }
@@ -287,71 +288,15 @@ fn check_slot(w: &[u64], c: usize, i: usize, e: usize) -> bool
     }
 }
 
-// Whether a slot stands after the cell a, and whether one stands before the cell b, by both links, and holds a resident
-// of list i.
-fn slot_leads(w: &[u64], c: usize, i: usize, a: usize) -> bool
-    requires { CanStep w.now c a }
-    ensures { result ≡ ahead (links_of c w.now) c (slot_test w.now c i) a }
-{
-    let at = 3 + 3 * c;
-    let x = tails::next(w, at, a);
-    if c <= x {
-        return false;
-    }
-    if tails::prev(w, at, x) != a {
-        return false;
-    }
-    check_slot(w, c, i, x)
-}
-
-fn slot_trails(w: &[u64], c: usize, i: usize, b: usize) -> bool
-    requires { CanStep w.now c b }
-    ensures { result ≡ behind (links_of c w.now) c (slot_test w.now c i) b }
-{
-    let at = 3 + 3 * c;
-    let y = tails::prev(w, at, b);
-    if c <= y {
-        return false;
-    }
-    if tails::next(w, at, y) != b {
-        return false;
-    }
-    check_slot(w, c, i, y)
-}
-
-// Whether list i is a ring with as many slots as counted, each of which holds a resident of it. As `rings::check`: it
-// is walked from both ends at once.
+// Whether list i is a ring with as many slots as counted, each of which holds a resident of it.
 fn check_side(w: &[u64], c: usize, i: usize) -> bool
     requires { HasList w.now c i × (i < 2) }
     ensures { result ≡ side_test w.now c i }
 {
-    let at = 3 + 3 * c;
+    let a = 3 + 3 * c;
     let s = c + i;
-    let mut left = w[i] as usize;
-    let mut a = s;
-    let mut b = s;
-    while 1 < left {
-        if slot_leads(w, c, i, a) {
-            if slot_trails(w, c, i, b) {
-                a = tails::next(w, at, a);
-                b = tails::prev(w, at, b);
-                left = left - 2;
-            } else {
-                return false;
-            }
-        } else {
-            return false;
-        }
-    }
-    if left == 0 {
-        return tails::joins(w, at, a, b);
-    }
-    if slot_leads(w, c, i, a) {
-        let x = tails::next(w, at, a);
-        tails::joins(w, at, x, b)
-    } else {
-        false
-    }
+    let n = w[i] as usize;
+    tails::walk(w, a, c, s, n, |e| check_slot(w, c, i, e))
 }
 
 // Whether the words, whatever they are, hold the residents of a cache of capacity c.
@@ -359,17 +304,5 @@ pub fn check(w: &[u64], c: usize) -> bool
     requires { Room w.now c }
     ensures { result ≡ residents_test w.now c }
 {
-    if check_counts(w, c) {
-        if check_side(w, c, 0) {
-            if check_side(w, c, 1) {
-                check_ring(w, c, 2)
-            } else {
-                false
-            }
-        } else {
-            false
-        }
-    } else {
-        false
-    }
+    check_counts(w, c) && check_side(w, c, 0) && check_side(w, c, 1) && check_ring(w, c, 2)
 }

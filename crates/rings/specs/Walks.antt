@@ -1,6 +1,6 @@
 -- The test of a ring, for any words: a walk by next and one by prev, from both ends at once, each link held against the link back, until they meet. Each member is
 -- put to a test T besides. Assumes nothing.
-use Rattle.std.specs.Prelude.{Bool, true, false, cond, List, [], ◌∷◌, ℕ, zero, suc, ◌≤◌, eqb, ltb}
+use Rattle.std.specs.Prelude.{◌≡◌, Bool, true, false, cond, List, [], ◌∷◌, ℕ, zero, suc, ◌<◌, ◌≤◌, eqb, ltb}
 use Rattle.cells.specs.Cells.{In, next_of, prev_of}
 
 -- b stands after a
@@ -41,3 +41,7 @@ pub record CanWalk (w : List ℕ) (m s : ℕ) : Type 0 where
 pub record CanStep (w : List ℕ) (m s a : ℕ) : Type 0 where
   pub walk : CanWalk w m s
   pub cell : In w a
+
+-- what P, the answers of a closure, tells of each member is what the test T tells
+abbrev pub Tells : (ℕ → Bool → Type 0) → ℕ → (ℕ → Bool) → Type 0
+Tells P m T = (e : ℕ) (r : Bool) → e < m → P e r → r ≡ T e

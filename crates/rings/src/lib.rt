@@ -6,10 +6,10 @@
 // for one ring and for another beside it in proofs/Ring.antt and Moves.antt, for a family of rings in Family.antt.
 #![tactic(auto)]
 
-ghost use Rattle.std.specs.Prelude.{◌≡◌};
-ghost use Rattle.cells.specs.Cells.{In};
+ghost use Rattle.std.specs.Prelude.{◌≡◌, Bool, true, ℕ, ◌<◌};
+ghost use Rattle.cells.specs.Cells.{In, next_of, prev_of};
 ghost use Rattle.rings.specs.Rings.{placed, inserted, detached, fronted, ended, replaced, emptied, linked, filled, CanPlace, CanInsert, CanDetach, CanFront, CanEnd, CanReplace, CanFill};
-ghost use Rattle.rings.specs.Walks.{joined, ahead, behind, any, ring_test, CanWalk, CanStep};
+ghost use Rattle.rings.specs.Walks.{joined, ahead, behind, between, ring_test, CanWalk, CanStep, Tells};
 
 // e, which is in no ring, comes between p and f. Nothing is read: a move to the front of a ring knows its sentinel, and
 // waits for no load of it.
@@ -56,7 +56,8 @@ pub fn to_front(w: &mut [u64], s: usize, e: usize)
     place(w, s, f, e);
 }
 
-// e leaves its ring and comes to the end of the ring of s, which may be its own.
+// e leaves its ring and comes to the end of the ring of s, which may be its own. Not one function with `to_front`: the
+// two ask other things (CanFront, CanEnd), and of two short bodies one reads what the other need not.
 pub fn to_end(w: &mut [u64], s: usize, e: usize)
     requires { CanEnd w.old s e }
     ensures { w.new ≡ ended s e w.old }
@@ -99,11 +100,9 @@ pub fn fill(w: &mut [u64], m: usize, s: usize)
     ensures { w.new ≡ filled s m w.old }
 {
     let mut p = s;
-    let mut i = 0;
-    while i < m {
+    for i in 0..m {
         link(w, p, i);
         p = i;
-        i = i + 1;
     }
     link(w, p, s);
 }
@@ -113,60 +112,64 @@ pub fn joins(w: &[u64], a: usize, b: usize) -> bool
     requires { In w.now a × In w.now b }
     ensures { result ≡ joined w.now a b }
 {
-    if cells::next(w, a) == b {
-        cells::prev(w, b) == a
-    } else {
-        false
-    }
+    cells::next(w, a) == b && cells::prev(w, b) == a
 }
 
-// Whether a member of the ring of s stands after a, and whether one stands before b, by both links.
-fn leads(w: &[u64], m: usize, s: usize, a: usize) -> bool
-    requires { CanStep w.now m s a }
-    ensures { result ≡ ahead w.now m any a }
+// Whether a member of the ring of s that passes the test stands after a, and whether one stands before b, by both
+// links.
+fn leads<F: Fn(usize) -> bool>(w: &[u64], m: usize, s: usize, a: usize, test: &F) -> bool
+    requires step { CanStep w.now m s a }
+    requires asked { (e : ℕ) → e < m → F.pre test.now e }
+    ensures member { result ≡ true → next_of w.now a < m }
+    ensures told { (T : ℕ → Bool) → Tells (F.post test.now) m T → result ≡ ahead w.now m T a }
 {
     let x = cells::next(w, a);
-    if x < m { cells::prev(w, x) == a } else { false }
+    x < m && cells::prev(w, x) == a && test(x)
 }
 
-fn trails(w: &[u64], m: usize, s: usize, b: usize) -> bool
-    requires { CanStep w.now m s b }
-    ensures { result ≡ behind w.now m any b }
+fn trails<F: Fn(usize) -> bool>(w: &[u64], m: usize, s: usize, b: usize, test: &F) -> bool
+    requires step { CanStep w.now m s b }
+    requires asked { (e : ℕ) → e < m → F.pre test.now e }
+    ensures member { result ≡ true → prev_of w.now b < m }
+    ensures told { (T : ℕ → Bool) → Tells (F.post test.now) m T → result ≡ behind w.now m T b }
 {
     let y = cells::prev(w, b);
-    if y < m { cells::next(w, y) == b } else { false }
+    y < m && cells::next(w, y) == b && test(y)
 }
 
-// Whether the ring of s has exactly n members, for any words. It is walked from both ends at once, a from the front and
-// b from the end: a step waits for the one before it, and so two walks of half the members take half the time. Each
-// link is held against the link back, so that no cell is passed twice.
-pub fn check(w: &[u64], m: usize, s: usize, n: usize) -> bool
-    requires { CanWalk w.now m s }
-    ensures { result ≡ ring_test w.now m s n }
+// Whether the ring of s has exactly n members, and each passes the test, for any words. It is walked from both ends at
+// once, a from the front and b from the end: a step waits for the one before it, and so two walks of half the members
+// take half the time. Each link is held against the link back, so that no cell is passed twice.
+pub fn walk<F: Fn(usize) -> bool>(w: &[u64], m: usize, s: usize, n: usize, test: F) -> bool
+    requires walk { CanWalk w.now m s }
+    requires asked { (e : ℕ) → e < m → F.pre test e }
+    ensures { (T : ℕ → Bool) → Tells (F.post test) m T → result ≡ between w.now m T n s s }
 {
-    let mut left = n;
     let mut a = s;
     let mut b = s;
-    while 1 < left {
-        if leads(w, m, s, a) {
-            if trails(w, m, s, b) {
-                a = cells::next(w, a);
-                b = cells::prev(w, b);
-                left = left - 2;
-            } else {
-                return false;
-            }
+    for k in 0..n / 2 {
+        if leads(w, m, s, a, &test) && trails(w, m, s, b, &test) {
+            a = cells::next(w, a);
+            b = cells::prev(w, b);
         } else {
             return false;
         }
     }
-    if left == 0 {
+    if n % 2 == 0 {
         return joins(w, a, b);
     }
-    if leads(w, m, s, a) {
+    if leads(w, m, s, a, &test) {
         let x = cells::next(w, a);
         joins(w, x, b)
     } else {
         false
     }
+}
+
+// Whether the ring of s has exactly n members, for any words.
+pub fn check(w: &[u64], m: usize, s: usize, n: usize) -> bool
+    requires { CanWalk w.now m s }
+    ensures { result ≡ ring_test w.now m s n }
+{
+    walk(w, m, s, n, |_| true)
 }

@@ -2,10 +2,10 @@
 // these functions lends the links alone to `cells` or `rings`: the words before a stay as they were.
 #![tactic(auto)]
 
-ghost use Rattle.std.specs.Prelude.{◌≡◌};
+ghost use Rattle.std.specs.Prelude.{◌≡◌, Bool, ℕ, ◌<◌};
 ghost use Rattle.cells.specs.Cells.{In, next_of, prev_of, with_prev, CanLink};
 ghost use Rattle.rings.specs.Rings.{inserted, detached, fronted, ended, replaced, emptied, filled, CanInsert, CanDetach, CanFront, CanEnd, CanReplace, CanFill};
-ghost use Rattle.rings.specs.Walks.{joined, ring_test, CanWalk};
+ghost use Rattle.rings.specs.Walks.{between, ring_test, CanWalk, Tells};
 ghost use Rattle.tails.specs.Tails.{tail_of, with_tail, Tail};
 
 // The cell after e.
@@ -96,10 +96,18 @@ pub fn check(w: &[u64], a: usize, m: usize, s: usize, n: usize) -> bool
     rings::check(&w[a..], m, s, n)
 }
 
-// Whether y stands after x, by both links.
-pub fn joins(w: &[u64], a: usize, x: usize, y: usize) -> bool
-    requires { Tail w.now a (In (tail_of a w.now) x × In (tail_of a w.now) y) }
-    ensures { result ≡ joined (tail_of a w.now) x y }
+// Whether the ring of s has exactly n members, and each passes the test, for any words.
+pub fn walk<F: Fn(usize) -> bool>(
+    w: &[u64],
+    a: usize,
+    m: usize,
+    s: usize,
+    n: usize,
+    test: F,
+) -> bool
+    requires walk { Tail w.now a (CanWalk (tail_of a w.now) m s) }
+    requires asked { (e : ℕ) → e < m → F.pre test e }
+    ensures { (T : ℕ → Bool) → Tells (F.post test) m T → result ≡ between (tail_of a w.now) m T n s s }
 {
-    rings::joins(&w[a..], x, y)
+    rings::walk(&w[a..], m, s, n, test)
 }

@@ -7,12 +7,6 @@ loop-i-init c = search laws
 pub link-requires : goal.link-requires
 link-requires c = search laws
 
-pub overflow_add-i : goal.overflow_add-i
-overflow_add-i c = search laws
-
-pub loop-i-smaller : goal.loop-i-smaller
-loop-i-smaller c = search laws
-
 pub loop-i-preserved : goal.loop-i-preserved
 loop-i-preserved c = search laws
 
