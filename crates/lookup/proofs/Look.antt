@@ -1,12 +1,13 @@
 -- The lookup as a plain search: no answer shows a bucket. In order: the answer that `find` gives; what an answer says; the search of any list of the places held.
 -- The answers after each change are in Answers.antt. Assumes nothing.
+use Rattle.std.specs.Prelude.{Option, Some, None}
 use Rattle.std.proofs.Common.{◌≡◌, ℕ, ◌<◌, ◌≤◌, Bool, true, false, cond, eqb, ltb, ◌⊎◌, List, [], ◌∷◌, get_or, sym, refl, ap, ◌∙◌, inl, inr, ⊎_elim, arith, rules, ltb-false, ltb-true, le-ltb, lt-ltb, eq-eqb, ne_eqb, eqb-true}
 use borrow.Author.Tests.{eqb-false}
 use Rattle.rings.specs.Members.{Mem}
 use Rattle.rings.proofs.Members.{same_or_other}
 use Rattle.lookup.specs.Buckets.{bucket_of}
 use Rattle.lookup.specs.Part.{page_of}
-use Rattle.lookup.specs.Lookup.{Lookup, bucket_in, Held, places_in, find_of, Place, at, none, place_at, look, place_or, searched}
+use Rattle.lookup.specs.Lookup.{Lookup, bucket_in, Held, places_in, find_of, Place, at, none, place_at, look, answered, searched}
 use Rattle.lookup.proofs.Table.{home, bucket_held, held_below, find_range, find_held}
 
 -- f is what `find` gave: the answer is f where it is a place that has the page, and otherwise none
@@ -80,30 +81,30 @@ module _ (w : List ℕ) (m k : ℕ) (t : Lookup w m k) where
           one true q ih = look_is p y (held y (inl refl)) (eqb-true (page_of w y) p q)
           one false q ih = ih (eqb-false (page_of w y) p q)
 
-  -- the answer as a number, for a caller that asked `place_of`
-  pub place_is_fact : (p r : ℕ) → r ≡ place_or m (look w m k p) → r < m → look w m k p ≡ at r
-  place_is_fact p r q h = go (look w m k p) refl
+  -- an answer as the code gives it, for a caller that asked `place_of`
+  pub answer_some : (p : ℕ) (r : Option ℕ) (x : ℕ) → r ≡ answered (look w m k p) → r ≡ Some x → look w m k p ≡ at x
+  answer_some p r x q e = go (look w m k p) refl
     where
-      go : (a : Place) → look w m k p ≡ a → look w m k p ≡ at r
-      go (at x) e = e ∙ ap at (sym (q ∙ ap (place_or m) e))
-      go none e = absurd (let z : r ≡ m = q ∙ ap (place_or m) e in let n : ⊥ = omega arith in n)
+      go : (a : Place) → look w m k p ≡ a → look w m k p ≡ at x
+      go (at y) h = let z : y ≡ x = cc (ap answered h) in h ∙ ap at z
+      go none h = absurd (let z : ⊥ = cc (ap answered h) in z)
 
-  pub place_none : (p r : ℕ) → r ≡ place_or m (look w m k p) → m ≤ r → look w m k p ≡ none
-  place_none p r q h = go (look w m k p) refl
+  pub answer_none : (p : ℕ) (r : Option ℕ) → r ≡ answered (look w m k p) → r ≡ None → look w m k p ≡ none
+  answer_none p r q e = go (look w m k p) refl
     where
       go : (a : Place) → look w m k p ≡ a → look w m k p ≡ none
-      go (at x) e = absurd (let z : r ≡ x = q ∙ ap (place_or m) e in let l : x < m = held_below w m k (bucket_in w m) t x (look_held p x e) in let n : ⊥ = omega arith in n)
-      go none e = e
+      go (at y) h = absurd (let z : ⊥ = cc (ap answered h) in z)
+      go none h = h
 
 -- the needs of `place_of`
 module _ (w : List ℕ) (m k p f : ℕ) (q : f ≡ find_of w m k p) where
-  pub place_past : m ≤ f → m ≡ place_or m (look w m k p)
-  place_past h = ap (place_or m) (sym (answer_past w m k p f q h))
+  pub place_past : m ≤ f → None ≡ answered (look w m k p)
+  place_past h = ap answered (sym (answer_past w m k p f q h))
 
-  pub place_differs : (get_or w f 0 ≡ p → ⊥) → m ≡ place_or m (look w m k p)
-  place_differs n = ap (place_or m) (sym (answer_differs w m k p f q n))
+  pub place_differs : (get_or w f 0 ≡ p → ⊥) → None ≡ answered (look w m k p)
+  place_differs n = ap answered (sym (answer_differs w m k p f q n))
 
-  pub place_there : f < m → get_or w f 0 ≡ p → f ≡ place_or m (look w m k p)
-  place_there h e = ap (place_or m) (sym (answer_is w m k p f q h e))
+  pub place_there : f < m → get_or w f 0 ≡ p → Some f ≡ answered (look w m k p)
+  place_there h e = ap answered (sym (answer_is w m k p f q h e))
 
 pub ruleset laws = (place_past, place_differs, place_there, rules)

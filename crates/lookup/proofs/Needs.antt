@@ -1,6 +1,6 @@
 -- The laws that answer the needs of the lookup's functions but `find`. In order: a cell that is read; the changes of the links; the part that is lent; the loops of `make`.
 -- Assumes nothing.
-use Rattle.std.proofs.Common.{◌≡◌, ℕ, zero, suc, ◌+◌, ◌-◌, ◌<◌, ◌≤◌, eqb, List, ◌++◌, length, get_or, take, drop, set, refl, ap, ◌∙◌, add-one, arith, length-set, rules}
+use Rattle.std.proofs.Common.{◌≡◌, ℕ, zero, suc, ◌+◌, ◌-◌, ◌<◌, ◌≤◌, List, ◌++◌, length, get_or, take, drop, set, refl, ap, ◌∙◌, add-one, arith, length-set, rules}
 use Rattle.cells.specs.Cells.{In, next_of, prev_of, with_prev, CanLink}
 use Rattle.cells.proofs.Laws.{in_cells, in_below, in_length, cells_length, length_with_prev, can_link}
 use Rattle.rings.specs.Rings.{inserted, detached, replaced, emptied, CanInsert, CanDetach, CanReplace}
@@ -19,9 +19,6 @@ next_lent w m e r q = q ∙ ap (λ (l : List ℕ). next_of l e) (links_lent m w)
 
 pub prev_lent : (w : List ℕ) (m e r : ℕ) → r ≡ prev_of (take (length w - m) (drop m w)) e → r ≡ prev_of (links_of m w) e
 prev_lent w m e r q = q ∙ ap (λ (l : List ℕ). prev_of l e) (links_lent m w)
-
-pub before_itself : (w : List ℕ) (m x r : ℕ) → r ≡ prev_of (links_of m w) x → eqb r x ≡ eqb (prev_of (links_of m w) x) x
-before_itself w m x r q = ap (λ (n : ℕ). eqb n x) q
 
 -- the second store of `unlink` and of `hand_over`: the cell is still there, and any up to it
 mark_up_to : (l v : List ℕ) (x z : ℕ) → length v ≡ length l → In l x → z ≤ x → CanLink v x z
@@ -124,7 +121,7 @@ wipe_first l m k can = let h : 0 < k = can.some in in_cells l (m + k) m can.cell
 pub wipe_second : (l v : List ℕ) (m k : ℕ) → CanBlank l m k → v ≡ deadened m l → CanBlank v m k
 wipe_second l v m k can q = record { some = can.some; cells = cells_length l v (m + k) (ap length q ∙ length_deadened m l) can.cells; fits = can.fits }
 
-pub ruleset reading = (reach, next_lent, prev_lent, before_itself, rules)
+pub ruleset reading = (reach, next_lent, prev_lent, rules)
 
 pub ruleset marking = (unlink_mark, hand_mark, rules)
 

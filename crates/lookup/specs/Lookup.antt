@@ -1,6 +1,6 @@
 -- The lookup: m places and k buckets. Bucket b is the ring of the sentinel m + b; its places stand in strictly rising order of their
 -- pages, and each page is in the bucket that it belongs to. A place in no bucket stands before itself. Assumes nothing.
-use Rattle.std.specs.Prelude.{◌≡◌, ℕ, suc, ◌+◌, ◌<◌, ◌≤◌, cond, List, [], ◌∷◌, ◌==◌, nat_lt}
+use Rattle.std.specs.Prelude.{◌≡◌, ℕ, suc, ◌+◌, ◌<◌, ◌≤◌, cond, List, [], ◌∷◌, ◌==◌, nat_lt, Option, Some, None}
 use Rattle.cells.specs.Cells.{prev_of}
 use Rattle.rings.specs.Members.{Mem, Fresh}
 use Rattle.rings.specs.Rings.{Ring, Rings, together, members_of}
@@ -64,10 +64,10 @@ place_at w m p f = cond (nat_lt f m) (cond (page_of w f == p) (at f) none) none
 unfoldable pub look : List ℕ → ℕ → ℕ → ℕ → Place
 look w m k p = place_at w m p (find_of w m k p)
 
--- an answer as a number: the place, or d for none
-abbrev pub place_or : ℕ → Place → ℕ
-place_or d (at x) = x
-place_or d none = d
+-- an answer as the code gives it
+abbrev pub answered : Place → Option ℕ
+answered (at x) = Some x
+answered none = None
 
 -- a plain search: the first of xs whose page is p
 abbrev pub searched : List ℕ → ℕ → List ℕ → Place

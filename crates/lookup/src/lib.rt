@@ -16,7 +16,7 @@ ghost use Rattle.rings.specs.Rings.{CanDetach, CanReplace};
 ghost use Rattle.lookup.specs.Buckets.{bucket_of, inverse_of, buckets_of};
 ghost use Rattle.lookup.specs.Dividing.{Divides, DivisorOf, Folded};
 ghost use Rattle.lookup.specs.Part.{page_of, links_of, Room};
-ghost use Rattle.lookup.specs.Lookup.{find_of, look, place_or, CanFind};
+ghost use Rattle.lookup.specs.Lookup.{find_of, look, answered, CanFind};
 ghost use Rattle.lookup.specs.Changes.{unlinked, handed_over, deadened, cleared, blank, put_in, taken, renamed, made, CanPut, CanTake, CanRename, CanReach, CanBlank};
 
 // About how often k goes into x, where `inverse` is about 2^32 / k. The contract only bounds it; callers verify the
@@ -40,17 +40,15 @@ pub fn bucket_of(k: usize, inverse: usize, p: u64) -> usize
     ensures { result ≡ bucket_of k p }
 {
     let x = p as usize;
-    if x < 4294967296 {
-        if k < 4294967296 {
-            let t = quotient(inverse, x) * k;
-            let r = std::num::wrapping_sub_usize(x, t);
-            if r < k {
-                return r;
-            }
-            let s = r - k;
-            if s < k {
-                return s;
-            }
+    if x < 4294967296 && k < 4294967296 {
+        let t = quotient(inverse, x) * k;
+        let r = std::num::wrapping_sub_usize(x, t);
+        if r < k {
+            return r;
+        }
+        let s = r - k;
+        if s < k {
+            return s;
         }
     }
     x % k
@@ -73,12 +71,7 @@ pub fn divisor_of(k: usize) -> Divisor
     let near = 4194304 % k;
     let far = 17592186044416 % k;
     let part = 1099511627776 / k;
-    Divisor {
-        k: k,
-        near: near,
-        far: far,
-        part: part,
-    }
+    Divisor { k, near, far, part }
 }
 
 // A smaller number with the bucket of x: x in three digits of 22 bits, with `near` for 2^22 and `far` for 2^44. It is
@@ -163,7 +156,7 @@ pub fn dead(w: &[u64], m: usize, x: usize) -> bool
 }
 
 // The first place of p's bucket whose page is not below p, or the bucket's sentinel: where p is, or before which it
-// belongs.
+// belongs. A `while`, since it walks links and counts no index.
 pub fn find(w: &[u64], m: usize, k: usize, inverse: usize, p: u64) -> usize
     requires { CanFind w.now m k p }
     ensures { result ≡ find_of w.now m k p }
@@ -180,19 +173,13 @@ pub fn find(w: &[u64], m: usize, k: usize, inverse: usize, p: u64) -> usize
     s
 }
 
-// The place that has the page p, or m where none has it.
-pub fn place_of(w: &[u64], m: usize, k: usize, inverse: usize, p: u64) -> usize
+// The place that has the page p, if one has it.
+pub fn place_of(w: &[u64], m: usize, k: usize, inverse: usize, p: u64) -> Option<usize>
     requires { CanFind w.now m k p }
-    ensures { result ≡ place_or m (look w.now m k p) }
+    ensures { result ≡ answered (look w.now m k p) }
 {
     let f = find(w, m, k, inverse, p);
-    if m <= f {
-        return m;
-    }
-    if w[f] != p {
-        return m;
-    }
-    f
+    if f < m && w[f] == p { Some(f) } else { None }
 }
 
 // The dead place y gets the page p and comes before f, which `find` gave. No bucket is computed.
@@ -245,10 +232,8 @@ fn deaden(l: &mut [u64], m: usize)
     requires { In l.old m }
     ensures { l.new ≡ deadened m l.old }
 {
-    let mut i = 0;
-    while i < m {
+    for i in 0..m {
         cells::set_prev(l, i, i);
-        i = i + 1;
     }
 }
 
@@ -257,11 +242,8 @@ fn clear(l: &mut [u64], m: usize, k: usize)
     requires { CanBlank l.old m k }
     ensures { l.new ≡ cleared m k l.old }
 {
-    let mut i = 0;
-    while i < k {
-        let s = m + i;
-        rings::empty(l, s);
-        i = i + 1;
+    for i in 0..k {
+        rings::empty(l, m + i);
     }
 }
 

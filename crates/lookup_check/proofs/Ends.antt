@@ -11,8 +11,7 @@ use Rattle.rings.specs.Rings.{Links}
 use Rattle.lookup.specs.Part.{page_of, links_of}
 use Rattle.lookup.specs.Lookup.{Rising}
 use Rattle.lookup.proofs.Rising.{rising_least}
-use Rattle.lookup_check.specs.declared.Rest.{Rest}
-use Rattle.lookup_check.specs.declared.Rest.TheVariants.{Left, Bad}
+use Rattle.std.specs.Prelude.{Option, Some, None}
 use Rattle.lookup_check.specs.Check.{least_after, closing, walk_from}
 use Rattle.lookup_check.proofs.Exact.{Passed, passed, least_place}
 use Rattle.lookup_check.proofs.Steps.{walk_last}
@@ -31,13 +30,13 @@ no_return w m s a (x ∷ xs) ls r h q n =
     omega arith
 
 module _ (w : List ℕ) (m k b left a : ℕ) (h : a < m) (q : prev_of (links_of m w) (m + b) ≡ a) where
-  pub last_closes : next_of (links_of m w) a ≡ m + b → walk_from w m k b left a ≡ Left left
+  pub last_closes : next_of (links_of m w) a ≡ m + b → walk_from w m k b left a ≡ Some left
   unfolding closing
   last_closes e = walk_last w m k b left a (omega arith) ∙ simp (eq-eqb (next_of (links_of m w) a) (m + b) e, eq-eqb (prev_of (links_of m w) (m + b)) a q)
 
-  pub last_strays : (next_of (links_of m w) a ≡ m + b → ⊥) → walk_from w m k b left a ≡ Bad
+  pub last_strays : (next_of (links_of m w) a ≡ m + b → ⊥) → walk_from w m k b left a ≡ None
   last_strays n = go (walk_from w m k b left a) refl
     where
-      go : (r : Rest) → walk_from w m k b left a ≡ r → walk_from w m k b left a ≡ Bad
-      go Bad e = e
-      go (Left rest) e = let p : Passed w m k b left rest a = passed w m k b left rest a e in absurd (no_return w m (m + b) a p.places p.links p.rising h q n)
+      go : (r : Option ℕ) → walk_from w m k b left a ≡ r → walk_from w m k b left a ≡ None
+      go None e = e
+      go (Some rest) e = let p : Passed w m k b left rest a = passed w m k b left rest a e in absurd (no_return w m (m + b) a p.places p.links p.rising h q n)

@@ -19,8 +19,7 @@ use Rattle.lookup.specs.Buckets.{bucket_of}
 use Rattle.lookup.specs.Dividing.{Divides}
 use Rattle.lookup.specs.Part.{page_of, links_of, Room}
 use Rattle.lookup.specs.Changes.{CanReach}
-use Rattle.lookup_check.specs.declared.Rest.{Rest}
-use Rattle.lookup_check.specs.declared.Rest.TheVariants.{Left, Bad}
+use Rattle.std.specs.Prelude.{Option, Some, None}
 use Rattle.lookup_check.specs.Check.{least_after, suits_test, closing, walk_from, walk_of, CanWalk, CanPass, CanGoOn}
 use Rattle.lookup_check.proofs.Steps.{walk_over, walk_step, walk_last}
 use Rattle.lookup_check.proofs.Ends.{last_closes, last_strays}
@@ -80,41 +79,41 @@ pub walk_belong : (w : List ℕ) (m : ℕ) (d : Divisor) (b : ℕ) → CanWalk w
 walk_belong w m d b can = (can.divides, can.bucket)
 
 -- THE LOOP of `walk_on`, and the first step of `walk`: `whole` is what the whole walk gives
-pub record Walked (w : List ℕ) (m k b : ℕ) (whole : Rest) (left cur x : ℕ) : Type 0 where
+pub record Walked (w : List ℕ) (m k b : ℕ) (whole : Option ℕ) (left cur x : ℕ) : Type 0 where
   pub after : x ≡ next_of (links_of m w) cur
   pub same : walk_from w m k b left cur ≡ whole
 
-module _ (w : List ℕ) (m k b : ℕ) (whole : Rest) (left cur x : ℕ) (g : Walked w m k b whole left cur x) where
-  pub walk_full : x < m → left ≡ 0 → Bad ≡ whole
+module _ (w : List ℕ) (m k b : ℕ) (whole : Option ℕ) (left cur x : ℕ) (g : Walked w m k b whole left cur x) where
+  pub walk_full : x < m → left ≡ 0 → None ≡ whole
   walk_full l q = sym (walk_over w m k b left cur q (rw g.after at l)) ∙ g.same
 
-  turn : x < m → (left ≡ 0 → ⊥) → walk_from w m k b left cur ≡ cond (eqb (prev_of (links_of m w) x) cur) (cond (suits_test w m k b cur x) (walk_from w m k b (left - 1) x) Bad) Bad
+  turn : x < m → (left ≡ 0 → ⊥) → walk_from w m k b left cur ≡ cond (eqb (prev_of (links_of m w) x) cur) (cond (suits_test w m k b cur x) (walk_from w m k b (left - 1) x) None) None
   turn l n = rw g.after (walk_step w m k b left (left - 1) cur (omega arith) (rw g.after at l))
 
   module _ (y : ℕ) (l : x < m) (n : left ≡ 0 → ⊥) (q : y ≡ prev_of (links_of m w) x) where
-    pub walk_unlinked : (y ≡ cur → ⊥) → Bad ≡ whole
+    pub walk_unlinked : (y ≡ cur → ⊥) → None ≡ whole
     walk_unlinked e = sym (turn l n ∙ simp (ne_eqb (prev_of (links_of m w) x) cur (rw q at e))) ∙ g.same
 
-    pub walk_linked : y ≡ cur → cond (suits_test w m k b cur x) (walk_from w m k b (left - 1) x) Bad ≡ whole
+    pub walk_linked : y ≡ cur → cond (suits_test w m k b cur x) (walk_from w m k b (left - 1) x) None ≡ whole
     walk_linked e = sym (turn l n ∙ simp (eq-eqb (prev_of (links_of m w) x) cur (rw q at e))) ∙ g.same
 
   last : m ≤ x → closing (links_of m w) (m + b) left cur ≡ whole
   last l = sym (walk_last w m k b left cur (rw g.after at l)) ∙ g.same
 
-  pub walk_astray : m ≤ x → (x ≡ m + b → ⊥) → Bad ≡ whole
+  pub walk_astray : m ≤ x → (x ≡ m + b → ⊥) → None ≡ whole
   unfolding closing
   walk_astray l e = sym (simp (ne_eqb (next_of (links_of m w) cur) (m + b) (rw g.after at e))) ∙ last l
 
-  pub walk_unclosed : (y : ℕ) → m ≤ x → x ≡ m + b → y ≡ prev_of (links_of m w) (m + b) → (y ≡ cur → ⊥) → Bad ≡ whole
+  pub walk_unclosed : (y : ℕ) → m ≤ x → x ≡ m + b → y ≡ prev_of (links_of m w) (m + b) → (y ≡ cur → ⊥) → None ≡ whole
   unfolding closing
   walk_unclosed y l e q d = sym (simp (eq-eqb (next_of (links_of m w) cur) (m + b) (rw g.after at e), ne_eqb (prev_of (links_of m w) (m + b)) cur (rw q at d))) ∙ last l
 
-  pub walk_closed : (y : ℕ) → m ≤ x → x ≡ m + b → y ≡ prev_of (links_of m w) (m + b) → y ≡ cur → Left left ≡ whole
+  pub walk_closed : (y : ℕ) → m ≤ x → x ≡ m + b → y ≡ prev_of (links_of m w) (m + b) → y ≡ cur → Some left ≡ whole
   unfolding closing
   walk_closed y l e q d = sym (simp (eq-eqb (next_of (links_of m w) cur) (m + b) (rw g.after at e), eq-eqb (prev_of (links_of m w) (m + b)) cur (rw q at d))) ∙ last l
 
 -- the loop of `walk_on`: cur is a place, not the last, and p its page
-pub record WalkedOn (w : List ℕ) (m k b z : ℕ) (whole : Rest) (left cur p x : ℕ) : Type 0 where
+pub record WalkedOn (w : List ℕ) (m k b z : ℕ) (whole : Option ℕ) (left cur p x : ℕ) : Type 0 where
   pub walked : Walked w m k b whole left cur x
   pub place : cur < m
   pub page : p ≡ page_of w cur
@@ -130,30 +129,30 @@ on_place w m d b z a can = can.place
 pub on_start : (w : List ℕ) (m : ℕ) (d : Divisor) (b z most a p x : ℕ) → CanGoOn w m d b z a → p ≡ page_of w a → x ≡ next_of (links_of m w) a → WalkedOn w m d.k b z (walk_from w m d.k b most a) most a p x
 on_start w m d b z most a p x can e q = record { walked = record { after = q; same = refl }; place = can.place; page = e; last = can.last; other = can.other }
 
-module _ (w : List ℕ) (m k b z : ℕ) (whole : Rest) (left cur p x : ℕ) (g : WalkedOn w m k b z whole left cur p x) where
+module _ (w : List ℕ) (m k b z : ℕ) (whole : Option ℕ) (left cur p x : ℕ) (g : WalkedOn w m k b z whole left cur p x) where
   pub on_walked : Walked w m k b whole left cur x
   on_walked = g.walked
 
-  pub on_ends : m ≤ x → Bad ≡ whole
+  pub on_ends : m ≤ x → None ≡ whole
   on_ends l =
       ⊎_elim (λ e. walk_unclosed w m k b whole left cur x g.walked _ l e refl (λ i. g.other (sym i ∙ sym g.last))) (λ e. walk_astray w m k b whole left cur x g.walked l e) (same_or_other x (m + b))
 
   module _ (y q : ℕ) (l : x < m) (n : left ≡ 0 → ⊥) (v : y ≡ prev_of (links_of m w) x) (e : y ≡ cur) (d : q ≡ page_of w x) where
-    pub on_falls : q ≤ p → Bad ≡ whole
+    pub on_falls : q ≤ p → None ≡ whole
     on_falls h = sym (rw (falls w m k b cur x g.place (rw (d, g.page) at h)) refl) ∙ walk_linked w m k b whole left cur x g.walked y l n v e
 
     module _ (t : Bool) (h : p < q) (i : t ≡ eqb (bucket_of k q) b) where
-      pub on_strange : t ≡ false → Bad ≡ whole
+      pub on_strange : t ≡ false → None ≡ whole
       on_strange o = sym (rw (strange w m k b cur x (rw d at (sym i ∙ o))) refl) ∙ walk_linked w m k b whole left cur x g.walked y l n v e
 
       module _ (o : t ≡ true) (j : ℕ) (u : j ≡ next_of (links_of m w) x) where
         onward : walk_from w m k b (left - 1) x ≡ whole
         onward = sym (rw (suited w m k b cur x (rw d at (sym i ∙ o)) (next_least w m cur x g.place (rw (g.page, d) at h))) refl) ∙ walk_linked w m k b whole left cur x g.walked y l n v e
 
-        pub on_closed : x ≡ z → j ≡ m + b → Left (left - 1) ≡ whole
+        pub on_closed : x ≡ z → j ≡ m + b → Some (left - 1) ≡ whole
         on_closed f c = sym (last_closes w m k b (left - 1) x l (sym (f ∙ g.last)) (sym u ∙ c)) ∙ onward
 
-        pub on_strays : x ≡ z → (j ≡ m + b → ⊥) → Bad ≡ whole
+        pub on_strays : x ≡ z → (j ≡ m + b → ⊥) → None ≡ whole
         on_strays f c = sym (last_strays w m k b (left - 1) x l (sym (f ∙ g.last)) (λ r. c (u ∙ r))) ∙ onward
 
         pub on_turn : (x ≡ z → ⊥) → WalkedOn w m k b z whole (left - 1) x q j
@@ -165,27 +164,27 @@ unfolding walk_of
 first_walked w m k b most x q = record { after = q; same = refl }
 
 module _ (w : List ℕ) (m k b most x : ℕ) (q : x ≡ next_of (links_of m w) (m + b)) where
-  pub first_full : x < m → most ≡ 0 → Bad ≡ walk_of w m k b most
+  pub first_full : x < m → most ≡ 0 → None ≡ walk_of w m k b most
   first_full l e = walk_full w m k b _ most (m + b) x (first_walked w m k b most x q) l e
 
-  pub first_astray : m ≤ x → (x ≡ m + b → ⊥) → Bad ≡ walk_of w m k b most
+  pub first_astray : m ≤ x → (x ≡ m + b → ⊥) → None ≡ walk_of w m k b most
   first_astray l e = walk_astray w m k b _ most (m + b) x (first_walked w m k b most x q) l e
 
-  first_unclosed : m ≤ x → x ≡ m + b → (prev_of (links_of m w) (m + b) ≡ m + b → ⊥) → Bad ≡ walk_of w m k b most
+  first_unclosed : m ≤ x → x ≡ m + b → (prev_of (links_of m w) (m + b) ≡ m + b → ⊥) → None ≡ walk_of w m k b most
   first_unclosed l e d = walk_unclosed w m k b _ most (m + b) x (first_walked w m k b most x q) _ l e refl d
 
-  pub first_closed : m ≤ x → x ≡ m + b → prev_of (links_of m w) (m + b) ≡ m + b → Left most ≡ walk_of w m k b most
+  pub first_closed : m ≤ x → x ≡ m + b → prev_of (links_of m w) (m + b) ≡ m + b → Some most ≡ walk_of w m k b most
   first_closed l e d = walk_closed w m k b _ most (m + b) x (first_walked w m k b most x q) _ l e refl d
 
   module _ (y : ℕ) (l : x < m) (n : most ≡ 0 → ⊥) (v : y ≡ prev_of (links_of m w) x) where
-    pub first_unlinked : (y ≡ m + b → ⊥) → Bad ≡ walk_of w m k b most
+    pub first_unlinked : (y ≡ m + b → ⊥) → None ≡ walk_of w m k b most
     first_unlinked e = walk_unlinked w m k b _ most (m + b) x (first_walked w m k b most x q) y l n v e
 
     module _ (p : ℕ) (e : y ≡ m + b) (d : p ≡ page_of w x) (t : Bool) (i : t ≡ eqb (bucket_of k p) b) where
-      pub first_strange : t ≡ false → Bad ≡ walk_of w m k b most
+      pub first_strange : t ≡ false → None ≡ walk_of w m k b most
       first_strange z = sym (rw (strange w m k b (m + b) x (rw d at (sym i ∙ z))) refl) ∙ walk_linked w m k b _ most (m + b) x (first_walked w m k b most x q) y l n v e
 
-      pub first_rest : (r : Rest) → t ≡ true → r ≡ walk_from w m k b (most - 1) x → r ≡ walk_of w m k b most
+      pub first_rest : (r : Option ℕ) → t ≡ true → r ≡ walk_from w m k b (most - 1) x → r ≡ walk_of w m k b most
       first_rest r z j =
           j ∙ sym (rw (suited w m k b (m + b) x (rw d at (sym i ∙ z)) (first_least w m (m + b) x (omega arith))) refl) ∙ walk_linked w m k b _ most (m + b) x (first_walked w m k b most x q) y l n v e
 
@@ -194,24 +193,24 @@ pub pass_walk : (w : List ℕ) (m : ℕ) (d : Divisor) (b x z : ℕ) → CanPass
 pass_walk w m d b x z can = can.walk
 
 module _ (w : List ℕ) (m : ℕ) (d : Divisor) (b most x z : ℕ) (can : CanPass w m d b x z) where
-  pub pass_high : m ≤ x → Bad ≡ walk_of w m d.k b most
+  pub pass_high : m ≤ x → None ≡ walk_of w m d.k b most
   pass_high l = ⊎_elim (λ e. first_unclosed w m d.k b most x can.first l e (λ i. can.other (e ∙ sym i ∙ sym can.last))) (λ e. first_astray w m d.k b most x can.first l e) (same_or_other x (m + b))
 
-  pub pass_full : x < m → most ≡ 0 → Bad ≡ walk_of w m d.k b most
+  pub pass_full : x < m → most ≡ 0 → None ≡ walk_of w m d.k b most
   pass_full l e = first_full w m d.k b most x can.first l e
 
   pub pass_on : x < m → CanGoOn w m d b z x
   pass_on l = record { walk = can.walk; place = l; last = can.last; other = can.other }
 
   module _ (y : ℕ) (l : x < m) (n : most ≡ 0 → ⊥) (v : y ≡ prev_of (links_of m w) x) where
-    pub pass_unlinked : (y ≡ m + b → ⊥) → Bad ≡ walk_of w m d.k b most
+    pub pass_unlinked : (y ≡ m + b → ⊥) → None ≡ walk_of w m d.k b most
     pass_unlinked e = first_unlinked w m d.k b most x can.first y l n v e
 
     module _ (p : ℕ) (e : y ≡ m + b) (g : p ≡ page_of w x) (t : Bool) (i : t ≡ eqb (bucket_of d.k p) b) where
-      pub pass_strange : t ≡ false → Bad ≡ walk_of w m d.k b most
+      pub pass_strange : t ≡ false → None ≡ walk_of w m d.k b most
       pass_strange o = first_strange w m d.k b most x can.first y l n v p e g t i o
 
-      pub pass_rest : (r : Rest) → t ≡ true → r ≡ walk_from w m d.k b (most - 1) x → r ≡ walk_of w m d.k b most
+      pub pass_rest : (r : Option ℕ) → t ≡ true → r ≡ walk_from w m d.k b (most - 1) x → r ≡ walk_of w m d.k b most
       pass_rest r o j = first_rest w m d.k b most x can.first y l n v p e g t i r o j
 
 pub ruleset on_laws = (walk_root, walk_in, walk_page, walk_belong, walk_fits, on_walk, on_place, on_start, on_walked, on_ends, walk_full, walk_unlinked, on_falls, on_strange, on_closed, on_strays, on_turn, rules)

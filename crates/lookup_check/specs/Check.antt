@@ -1,13 +1,11 @@
 -- The test of a lookup, for any words: the walk of each bucket, with what is left of a budget handed from one to the next. Assumes nothing.
-use Rattle.std.specs.Prelude.{◌≡◌, Bool, false, cond, List, ℕ, zero, suc, ◌+◌, ◌-◌, ◌<◌, length, eqb, ltb, leb}
+use Rattle.std.specs.Prelude.{◌≡◌, Bool, false, cond, List, ℕ, zero, suc, ◌+◌, ◌-◌, ◌<◌, length, eqb, ltb, leb, Option, Some, None}
 use Rattle.cells.specs.Cells.{next_of, prev_of}
 use Rattle.lookup.specs.declared.Divisor.{Divisor}
 use Rattle.lookup.specs.Buckets.{bucket_of}
 use Rattle.lookup.specs.Dividing.{Divides}
 use Rattle.lookup.specs.Part.{page_of, links_of, Room}
 use Rattle.lookup.specs.Lookup.{Lookup, places_in}
-use Rattle.lookup_check.specs.declared.Rest.{Rest}
-use Rattle.lookup_check.specs.declared.Rest.TheVariants.{Left, Bad}
 
 -- the least page that may follow the cell a: above the page of a, where a is a place
 unfoldable pub least_after : List ℕ → ℕ → ℕ → ℕ
@@ -18,36 +16,36 @@ unfoldable pub suits_test : List ℕ → ℕ → ℕ → ℕ → ℕ → ℕ →
 suits_test w m k b a x = cond (eqb (bucket_of k (page_of w x)) b) (leb (least_after w m a) (page_of w x)) false
 
 -- the walk has come to a, after which no place follows: it ends well at the sentinel s
-unfoldable pub closing : List ℕ → ℕ → ℕ → ℕ → Rest
-closing l s left a = cond (eqb (next_of l a) s) (cond (eqb (prev_of l s) a) (Left left) Bad) Bad
+unfoldable pub closing : List ℕ → ℕ → ℕ → ℕ → Option ℕ
+closing l s left a = cond (eqb (next_of l a) s) (cond (eqb (prev_of l s) a) (Some left) None) None
 
 -- the walk of bucket b from the cell a on, with at most `left` places to come
-abbrev pub walk_from : List ℕ → ℕ → ℕ → ℕ → ℕ → ℕ → Rest
-walk_from w m k b zero a = cond (ltb (next_of (links_of m w) a) m) Bad (closing (links_of m w) (m + b) 0 a)
+abbrev pub walk_from : List ℕ → ℕ → ℕ → ℕ → ℕ → ℕ → Option ℕ
+walk_from w m k b zero a = cond (ltb (next_of (links_of m w) a) m) None (closing (links_of m w) (m + b) 0 a)
 walk_from w m k b (suc left) a =
     cond (ltb (next_of (links_of m w) a) m)
     (cond (eqb (prev_of (links_of m w) (next_of (links_of m w) a)) a)
-    (cond (suits_test w m k b a (next_of (links_of m w) a)) (walk_from w m k b left (next_of (links_of m w) a)) Bad)
-    Bad)
+    (cond (suits_test w m k b a (next_of (links_of m w) a)) (walk_from w m k b left (next_of (links_of m w) a)) None)
+    None)
     (closing (links_of m w) (m + b) (suc left) a)
 
 -- the walk of bucket b
-unfoldable pub walk_of : List ℕ → ℕ → ℕ → ℕ → ℕ → Rest
+unfoldable pub walk_of : List ℕ → ℕ → ℕ → ℕ → ℕ → Option ℕ
 walk_of w m k b most = walk_from w m k b most (m + b)
 
 -- the walks of the first n buckets, one after the other
-abbrev pub walk_on : List ℕ → ℕ → ℕ → ℕ → Rest → Rest
-walk_on w m k b (Left left) = walk_of w m k b left
-walk_on w m k b Bad = Bad
+abbrev pub walk_on : List ℕ → ℕ → ℕ → ℕ → Option ℕ → Option ℕ
+walk_on w m k b (Some left) = walk_of w m k b left
+walk_on w m k b None = None
 
-unfoldable pub walks_of : List ℕ → ℕ → ℕ → ℕ → ℕ → Rest
-walks_of w m k live zero = Left live
+unfoldable pub walks_of : List ℕ → ℕ → ℕ → ℕ → ℕ → Option ℕ
+walks_of w m k live zero = Some live
 walks_of w m k live (suc n) = walk_on w m k n (walks_of w m k live n)
 
 -- whether nothing is left
-abbrev pub used_up : Rest → Bool
-used_up (Left left) = eqb left 0
-used_up Bad = false
+abbrev pub used_up : Option ℕ → Bool
+used_up (Some left) = eqb left 0
+used_up None = false
 
 -- THE TEST: the words are a lookup that holds exactly `live` places
 unfoldable pub lookup_test : List ℕ → ℕ → ℕ → ℕ → Bool

@@ -23,16 +23,19 @@ ghost use Rattle.lookup_check.specs.Check.{walk_from, walk_of, lookup_test, show
 
 use lookup::Divisor;
 
-// What a walk finds: how much of the budget is left, or that the words are no lookup, or that the budget is too small.
-#[derive(Clone, Copy)]
-pub enum Rest {
-    Left(usize),
-    Bad,
-}
-
-// The walk of bucket b after its place a, with a budget of so many places. z is the cell before the sentinel: the walk
-// ends well only there. p is the page of `cur`. d has the number k of buckets, here and below.
-fn walk_on(w: &[u64], m: usize, d: Divisor, b: usize, z: usize, most: usize, a: usize) -> Rest
+// The walk of bucket b after its place a, with a budget of so many places: how much of it is left, or none where the
+// words are no lookup or the budget is too small. z is the cell before the sentinel: the walk ends well only there. p
+// is the page of `cur`. d has the number k of buckets, here and below. A `while`, since it walks links and counts no
+// index.
+fn walk_on(
+    w: &[u64],
+    m: usize,
+    d: Divisor,
+    b: usize,
+    z: usize,
+    most: usize,
+    a: usize,
+) -> Option<usize>
     requires { CanGoOn w.now m d b z a }
     ensures { result ≡ walk_from w.now m d.k b most a }
 {
@@ -43,56 +46,53 @@ fn walk_on(w: &[u64], m: usize, d: Divisor, b: usize, z: usize, most: usize, a: 
     let mut x = lookup::next_of(w, m, a);
     while x < m {
         if left == 0 {
-            return Rest::Bad;
+            return None;
         }
         if lookup::prev_of(w, m, x) != cur {
-            return Rest::Bad;
+            return None;
         }
         let q = lookup::page_of(w, x);
         if q <= p {
-            return Rest::Bad;
+            return None;
         }
-        if lookup::belongs(d, b, q) {
-            left = left - 1;
-            let y = lookup::next_of(w, m, x);
-            if x == z {
-                if y == s {
-                    return Rest::Left(left);
-                }
-                return Rest::Bad;
+        if !lookup::belongs(d, b, q) {
+            return None;
+        }
+        left = left - 1;
+        let y = lookup::next_of(w, m, x);
+        if x == z {
+            if y == s {
+                return Some(left);
             }
-            cur = x;
-            p = q;
-            x = y;
-        } else {
-            return Rest::Bad;
+            return None;
         }
+        cur = x;
+        p = q;
+        x = y;
     }
-    Rest::Bad
+    None
 }
 
 // The walk of bucket b with a budget of so many places, where the cell x stands first in it and another, z, last.
-fn walk(w: &[u64], m: usize, d: Divisor, b: usize, most: usize, x: usize, z: usize) -> Rest
+fn walk(w: &[u64], m: usize, d: Divisor, b: usize, most: usize, x: usize, z: usize) -> Option<usize>
     requires { CanPass w.now m d b x z }
     ensures { result ≡ walk_of w.now m d.k b most }
 {
     let s = m + b;
     if m <= x {
-        return Rest::Bad;
+        return None;
     }
     if most == 0 {
-        return Rest::Bad;
+        return None;
     }
     if lookup::prev_of(w, m, x) != s {
-        return Rest::Bad;
+        return None;
     }
     let p = lookup::page_of(w, x);
-    if lookup::belongs(d, b, p) {
-        let left = most - 1;
-        walk_on(w, m, d, b, z, left, x)
-    } else {
-        Rest::Bad
+    if !lookup::belongs(d, b, p) {
+        return None;
     }
+    walk_on(w, m, d, b, z, most - 1, x)
 }
 
 // The page to test for cell x, p being its page where it is a place; for a sentinel, its bucket's number.
@@ -141,8 +141,7 @@ pub fn check(w: &[u64], m: usize, k: usize, live: usize) -> bool
 {
     let d = lookup::divisor_of(k);
     let mut rest = live;
-    let mut b = 0;
-    while b < k {
+    for b in 0..k {
         let s = m + b;
         let x = lookup::next_of(w, m, s);
         let z = lookup::prev_of(w, m, s);
@@ -151,22 +150,15 @@ pub fn check(w: &[u64], m: usize, k: usize, live: usize) -> bool
             if rest < n {
                 return false;
             }
-            if alone(w, m, d, b, x) {
-                rest = rest - n;
-                b = b + 1;
-            } else {
+            if !alone(w, m, d, b, x) {
                 return false;
             }
+            rest = rest - n;
         } else {
-            match walk(w, m, d, b, rest, x, z) {
-                Rest::Left(n) => {
-                    rest = n;
-                    b = b + 1;
-                }
-                Rest::Bad => {
-                    return false;
-                }
-            }
+            let Some(n) = walk(w, m, d, b, rest, x, z) else {
+                return false;
+            };
+            rest = n;
         }
     }
     rest == 0

@@ -2,23 +2,11 @@
 use Rattle.lookup.proofs.Belonging.{laws}
 use Rattle.lookup.proofs.belongs.Goals as goal
 
-pub fold-y-requires : goal.fold-y-requires
-fold-y-requires c = search laws
-
 pub overflow_mul-q : goal.overflow_mul-q
 overflow_mul-q c = search laws
 
-pub overflow_mul-t : goal.overflow_mul-t
-overflow_mul-t c = search laws
-
-pub overflow_add-t : goal.overflow_add-t
-overflow_add-t c = search laws
-
 pub returns-then-t-b : goal.returns-then-t-b
 returns-then-t-b c = search laws
-
-pub nonzero_rem-result : goal.nonzero_rem-result
-nonzero_rem-result c = search laws
 
 pub returns : goal.returns
 returns c = search laws

@@ -7,14 +7,5 @@ loop-i-init c = search looping
 pub set_prev-requires : goal.set_prev-requires
 set_prev-requires c = search looping
 
-pub overflow_add-i : goal.overflow_add-i
-overflow_add-i c = search looping
-
-pub loop-i-smaller : goal.loop-i-smaller
-loop-i-smaller c = search looping
-
 pub loop-i-preserved : goal.loop-i-preserved
 loop-i-preserved c = search looping
-
-pub returns : goal.returns
-returns c = search looping

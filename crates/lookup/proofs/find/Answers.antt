@@ -1,23 +1,11 @@
 use Rattle.lookup.proofs.Finding.{laws}
 use Rattle.lookup.proofs.find.Goals as goal
 
-pub bucket_of-requires : goal.bucket_of-requires
-bucket_of-requires c = search laws
-
 pub overflow_add-s : goal.overflow_add-s
 overflow_add-s c = search laws
 
-pub next_of-cur-requires : goal.next_of-cur-requires
-next_of-cur-requires c = search laws
-
 pub loop-cur-init : goal.loop-cur-init
 loop-cur-init c = search laws
-
-pub offset_bounds-w-cur : goal.offset_bounds-w-cur
-offset_bounds-w-cur c = search laws
-
-pub bounds-w-cur : goal.bounds-w-cur
-bounds-w-cur c = search laws
 
 pub next_of-cur-requires-then-w-cur : goal.next_of-cur-requires-then-w-cur
 next_of-cur-requires-then-w-cur c = search laws

@@ -3,9 +3,6 @@ use Rattle.lookup.specs.Changes.{handed_over}
 use Rattle.lookup.proofs.Needs.{marking}
 use Rattle.lookup.proofs.hand_over.Goals as goal
 
-pub replace-requires : goal.replace-requires
-replace-requires c = search marking
-
 pub set_prev-requires : goal.set_prev-requires
 set_prev-requires c = search marking
 

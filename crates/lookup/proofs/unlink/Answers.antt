@@ -3,9 +3,6 @@ use Rattle.lookup.specs.Changes.{unlinked}
 use Rattle.lookup.proofs.Needs.{marking}
 use Rattle.lookup.proofs.unlink.Goals as goal
 
-pub detach-requires : goal.detach-requires
-detach-requires c = search marking
-
 pub set_prev-requires : goal.set_prev-requires
 set_prev-requires c = search marking
 

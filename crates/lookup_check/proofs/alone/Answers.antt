@@ -2,12 +2,6 @@
 use Rattle.lookup_check.proofs.Checking.{laws}
 use Rattle.lookup_check.proofs.alone.Goals as goal
 
-pub overflow_add-s : goal.overflow_add-s
-overflow_add-s c = search laws
-
-pub overflow_add-m : goal.overflow_add-m
-overflow_add-m c = search laws
-
 pub returns-then-m-d : goal.returns-then-m-d
 returns-then-m-d c = search laws
 
@@ -20,17 +14,11 @@ prev_of-z-requires c = search laws
 pub page_of-v-requires : goal.page_of-v-requires
 page_of-v-requires c = search laws
 
-pub shown-p-requires : goal.shown-p-requires
-shown-p-requires c = search laws
-
 pub returns-then-y-s : goal.returns-then-y-s
 returns-then-y-s c = search laws
 
 pub returns-then-z-s : goal.returns-then-z-s
 returns-then-z-s c = search laws
-
-pub belongs-requires : goal.belongs-requires
-belongs-requires c = search laws
 
 pub returns : goal.returns
 returns c = search laws
