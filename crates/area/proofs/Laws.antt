@@ -1,25 +1,26 @@
 -- What a write of one part does to the parts together, and what answers the needs of the functions.
 -- Assumes nothing.
 use mathlib.Core.Path.{◌≡◌, refl, sym, ap, ◌∙◌}
-use mathlib.Core.List.{List}
+use mathlib.Core.List.{List, ◌++◌}
 use Prim.Native.Nat.{ℕ, ◌+◌, ◌-◌, ◌*◌, ◌<◌, ◌≤◌}
 use native.Mathlib.Omega.{arith}
-use lib.ListN.{length, get_or, set, take, length-set, length-drop}
+use lib.ListN.{length, get_or, set, take, drop, length-set, length-drop}
 use lib.Seq.{get_or-take, get_or-set_same, get_or-set_other, drop-set-lt}
-use borrow.Author.Tests.{eq-eqb, ne_eqb}
 use borrow.Author.Rules.{rules}
-use Rattle.rules.specs.State.{Side, first, second}
-use Rattle.cells.specs.Cells.{In, prev_of}
+use Rattle.std.specs.Prelude.{Option}
+use Rattle.std.specs.declared.ops.Range.{Range}
+use Rattle.rules.specs.declared.Side.{Side}
+use Rattle.rules.specs.declared.Side.TheVariants.{First as first, Second as second}
+use Rattle.cells.specs.Cells.{In}
 use Rattle.tails.specs.Tails.{tail_of}
 use Rattle.residents.specs.Residents as residents
-use Rattle.residents.specs.Changes.{HasList, HasSlot, Added, top_of}
+use Rattle.residents.specs.Changes.{HasList, HasSlot}
 use Rattle.ghosts.specs.Ghosts as ghosts
-use Rattle.ghosts.specs.Ghosts.{CanRecord, CanForget}
 use Rattle.lookup.specs.Buckets.{buckets_of}
-use Rattle.lookup.specs.Lookup.{find_of, look, place_or, CanFind}
+use Rattle.lookup.specs.Lookup.{find_of, look, answered, CanFind}
 use Rattle.area_state.specs.Parts.{Parts, set_target, set_residents, set_ghosts, set_lookup}
 use Rattle.area.specs.Part.{part, splice}
-use Rattle.area.specs.Area.{ghosts_at, end_at, side_of, residents_in, ghosts_in, lookup_in, parts_of, Starts, Became, Answered}
+use Rattle.area.specs.Area.{ghosts_at, end_at, residents_in, ghosts_in, lookup_in, residents_words, ghosts_words, lookup_words, parts_of, Starts, Became}
 use Rattle.area.proofs.Part.{length_part, length_splice, take_splice, part_splice, part_above, part_below, drop_above, take_below}
 
 -- ---- the lengths of the parts
@@ -133,11 +134,11 @@ target_became c t w size =
     }
 
 -- ---- where a side's ghost list starts
-pub starts_first : (c i : ℕ) → i ≡ 0 → Starts c (side_of i) (5 * c + 52)
-starts_first c i h = rw (eq-eqb i 0 h) (record { at = refl; low = omega arith; high = omega arith })
+pub starts_first : (c : ℕ) → Starts c first (5 * c + 52)
+starts_first c = record { at = refl; low = omega arith; high = omega arith }
 
-pub starts_second : (c i : ℕ) → (i ≡ 0 → ⊥) → Starts c (side_of i) (7 * c + 57)
-starts_second c i h = rw (ne_eqb i 0 h) (record { at = refl; low = omega arith; high = omega arith })
+pub starts_second : (c : ℕ) → Starts c second (7 * c + 57)
+starts_second c = record { at = refl; low = omega arith; high = omega arith }
 
 -- ---- one write after another
 pub then : (c : ℕ) (w u v : List ℕ) (p q : Parts) → Became c w u p → Became c u v q → Became c w v q
@@ -175,43 +176,48 @@ module _ (c : ℕ) (w : List ℕ) (small : c ≤ 1024) (size : end_at c ≤ leng
       let n = length_ghosts c w size i in
       record { small = small; head = omega arith; links = simp length-drop (omega arith) }
 
-  -- of a ghost list, that starts where the code says
-  pub ghosts_room_at : (i : Side) (a : ℕ) → Starts c i a → ghosts.Room (part a (a + 2 * c + 5) w) c
-  unfolding ghosts_in
-  ghosts_room_at i a s = rw s.at (ghosts_room i)
-
 pub ghosts_part : (c : ℕ) (i : Side) (a : ℕ) (w : List ℕ) → Starts c i a → part a (a + 2 * c + 5) w ≡ ghosts_in i c w
 unfolding ghosts_in
 ghosts_part c i a w s = ap (λ n. part n (n + 2 * c + 5) w) s.at
 
-pub can_record_at : (c : ℕ) (i : Side) (a : ℕ) (w : List ℕ) → Starts c i a → CanRecord (ghosts_in i c w) c → CanRecord (part a (a + 2 * c + 5) w) c
-can_record_at c i a w s h = rw (ghosts_part c i a w s) h
+-- ---- in the shape of the code, where r is the range that a part has
+residents_here : (c : ℕ) (w : List ℕ) (r : Range ℕ) → r ≡ residents_words c → part r.start r.end w ≡ residents_in c w
+unfolding residents_in
+residents_here c w r q = rw q refl
 
-pub can_forget_at : (c : ℕ) (i : Side) (a : ℕ) (w : List ℕ) (g : ℕ) → Starts c i a → CanForget (ghosts_in i c w) c g → CanForget (part a (a + 2 * c + 5) w) c g
-can_forget_at c i a w g s h = rw (ghosts_part c i a w s) h
+ghosts_here : (i : Side) (c : ℕ) (w : List ℕ) (r : Range ℕ) → r ≡ ghosts_words i c → part r.start r.end w ≡ ghosts_in i c w
+unfolding ghosts_in
+ghosts_here i c w r q = rw q refl
 
-pub count_at : (c : ℕ) (i : Side) (a : ℕ) (w : List ℕ) (r : ℕ) → Starts c i a → r ≡ ghosts.count_of (part a (a + 2 * c + 5) w) → r ≡ ghosts.count_of (ghosts_in i c w)
-count_at c i a w r s e = e ∙ ap ghosts.count_of (ghosts_part c i a w s)
+lookup_here : (c : ℕ) (w : List ℕ) (r : Range ℕ) → r ≡ lookup_words c → part r.start r.end w ≡ lookup_in c w
+unfolding lookup_in
+lookup_here c w r q = rw q refl
 
-pub oldest_at : (c : ℕ) (i : Side) (a : ℕ) (w : List ℕ) (r : ℕ) → Starts c i a → r ≡ prev_of (ghosts.links_of (part a (a + 2 * c + 5) w)) c → r ≡ prev_of (ghosts.links_of (ghosts_in i c w)) c
-oldest_at c i a w r s e = e ∙ ap (λ l. prev_of (ghosts.links_of l) c) (ghosts_part c i a w s)
+pub residents_cut : (c : ℕ) (w : List ℕ) (r : Range ℕ) → r ≡ residents_words c → take (r.end - r.start) (drop r.start w) ≡ residents_in c w
+unfolding part
+residents_cut c w r q = residents_here c w r q
 
-pub recorded_at : (c : ℕ) (i : Side) (a : ℕ) (w u : List ℕ) (r : ℕ) → end_at c ≤ length w → Starts c i a → length u ≡ length (part a (a + 2 * c + 5) w)
-    → ghosts.Recorded (part a (a + 2 * c + 5) w) u c r
-    → Answered c w (splice a (a + 2 * c + 5) u w) r (ghosts.record_cell c (ghosts_in i c w)) (set_ghosts i (ghosts.recorded c (ghosts_in i c w)) (parts_of c w))
-recorded_at c i a w u r size s l d =
-    let q = ghosts_part c i a w s in
-    record {
-      answer = d.cell ∙ ap (ghosts.record_cell c) q;
-      became = ghosts_written c i a w u _ size s (l ∙ ap length q) (d.words ∙ ap (ghosts.recorded c) q);
-    }
+pub ghosts_cut : (i : Side) (c : ℕ) (w : List ℕ) (r : Range ℕ) → r ≡ ghosts_words i c → take (r.end - r.start) (drop r.start w) ≡ ghosts_in i c w
+unfolding part
+ghosts_cut i c w r q = ghosts_here i c w r q
 
-pub forgot_at_lem : (c : ℕ) (i : Side) (a : ℕ) (w u : List ℕ) (g : ℕ) → end_at c ≤ length w → Starts c i a → length u ≡ length (part a (a + 2 * c + 5) w)
-    → u ≡ ghosts.forgotten c g (part a (a + 2 * c + 5) w)
-    → Became c w (splice a (a + 2 * c + 5) u w) (set_ghosts i (ghosts.forgotten c g (ghosts_in i c w)) (parts_of c w))
-forgot_at_lem c i a w u g size s l e =
-    let q = ghosts_part c i a w s in
-    ghosts_written c i a w u _ size s (l ∙ ap length q) (e ∙ ap (ghosts.forgotten c g) q)
+pub lookup_cut : (c : ℕ) (w : List ℕ) (r : Range ℕ) → r ≡ lookup_words c → take (r.end - r.start) (drop r.start w) ≡ lookup_in c w
+unfolding part
+lookup_cut c w r q = lookup_here c w r q
+
+-- u is the part after a call, and x what the call leaves of the part
+module _ (c : ℕ) (w u : List ℕ) (r : Range ℕ) (size : end_at c ≤ length w) (l : length u ≡ length (take (r.end - r.start) (drop r.start w))) where
+  pub residents_put : r ≡ residents_words c → (x : List ℕ) → u ≡ x → Became c w (take r.start w ++ (u ++ drop (r.end - r.start) (drop r.start w))) (set_residents x (parts_of c w))
+  unfolding splice
+  residents_put q x e = let n : length u ≡ length (residents_in c w) = l ∙ ap length (residents_cut c w r q) in rw q (residents_written c w u x size n e)
+
+  pub ghosts_put : (i : Side) → r ≡ ghosts_words i c → (x : List ℕ) → u ≡ x → Became c w (take r.start w ++ (u ++ drop (r.end - r.start) (drop r.start w))) (set_ghosts i x (parts_of c w))
+  unfolding splice
+  ghosts_put i q x e = let n : length u ≡ length (ghosts_in i c w) = l ∙ ap length (ghosts_cut i c w r q) in rw (q, sym e) (ghosts_became c w u size i (n ∙ length_ghosts c w size i))
+
+  pub lookup_put : r ≡ lookup_words c → (x : List ℕ) → u ≡ x → Became c w (take r.start w ++ (u ++ drop (r.end - r.start) (drop r.start w))) (set_lookup x (parts_of c w))
+  unfolding splice
+  lookup_put q x e = let n : length u ≡ length (lookup_in c w) = l ∙ ap length (lookup_cut c w r q) in rw q (lookup_written c w u x size n e)
 
 -- of the lookup, with as many buckets as the code says
 pub can_find_at : (w : List ℕ) (m c k x : ℕ) → k ≡ buckets_of c → CanFind w m (buckets_of c) x → CanFind w m k x
@@ -220,11 +226,7 @@ can_find_at w m c k x e h = rw e h
 pub found_at : (w : List ℕ) (m c k x r : ℕ) → k ≡ buckets_of c → r ≡ find_of w m k x → r ≡ find_of w m (buckets_of c) x
 found_at w m c k x r e h = h ∙ ap (λ n. find_of w m n x) e
 
-pub place_at_lem : (w : List ℕ) (m c k x r : ℕ) → k ≡ buckets_of c → r ≡ place_or m (look w m k x) → r ≡ place_or m (look w m (buckets_of c) x)
-place_at_lem w m c k x r e h = h ∙ ap (λ n. place_or m (look w m n x)) e
+pub place_at_lem : (w : List ℕ) (m c k x : ℕ) (r : Option ℕ) → k ≡ buckets_of c → r ≡ answered (look w m k x) → r ≡ answered (look w m (buckets_of c) x)
+place_at_lem w m c k x r e h = h ∙ ap (λ n. answered (look w m n x)) e
 
-pub added_in : (c : ℕ) (w u : List ℕ) (r : ℕ) (x : List ℕ) → end_at c ≤ length w → length u ≡ length (residents_in c w) → Added (residents_in c w) u c r x
-    → Answered c w (splice 43 (5 * c + 52) u w) r (top_of c (residents_in c w)) (set_residents x (parts_of c w))
-added_in c w u r x size l d = record { answer = d.slot; became = residents_written c w u x size l d.words }
-
-pub ruleset laws = (target_became, starts_first, starts_second, has_list, has_slot, ghosts_room_at, can_record_at, can_forget_at, count_at, oldest_at, can_find_at, found_at, place_at_lem, rules)
+pub ruleset laws = (target_became, starts_first, starts_second, has_list, has_slot, ghosts_room, can_find_at, found_at, place_at_lem, rules)

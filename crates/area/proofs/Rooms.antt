@@ -3,7 +3,8 @@ use mathlib.Core.List.{List}
 use Prim.Native.Nat.{ℕ, ◌*◌, ◌<◌, ◌≤◌}
 use native.Mathlib.Omega.{arith}
 use lib.ListN.{length, length-drop}
-use Rattle.rules.specs.State.{Side, first, second}
+use Rattle.rules.specs.declared.Side.{Side}
+use Rattle.rules.specs.declared.Side.TheVariants.{First as first, Second as second}
 use Rattle.cells.specs.Cells.{Cells, words_of}
 use Rattle.ghosts.specs.Ghosts as ghosts
 use Rattle.lookup.specs.Buckets.{buckets_of, places_of}

@@ -1,6 +1,8 @@
 -- How an area of capacity c is cut: a header of 43 words, then the residents, B1, B2 and the lookup (docs/LAYOUT.md). Assumes nothing.
 use Rattle.std.specs.Prelude.{◌≡◌, cond, List, ℕ, ◌+◌, ◌*◌, ◌≤◌, eqb, length, get_or, drop}
-use Rattle.rules.specs.State.{Side, first, second}
+use Rattle.std.specs.declared.ops.Range.{Range}
+use Rattle.rules.specs.declared.Side.{Side}
+use Rattle.rules.specs.declared.Side.TheVariants.{First as first, Second as second}
 use Rattle.area_state.specs.Parts.{Parts}
 use Rattle.area.specs.Part.{part}
 
@@ -41,6 +43,16 @@ ghosts_in i c w = part (ghosts_at i c) (ghosts_at i c + 2 * c + 5) w
 
 unfoldable pub lookup_in : ℕ → List ℕ → List ℕ
 lookup_in c w = part (lookup_at c) (end_at c) w
+
+-- the same as ranges, as the code cuts them
+abbrev pub residents_words : ℕ → Range ℕ
+residents_words c = record { start = residents_at; end = ghosts_at first c }
+
+abbrev pub ghosts_words : Side → ℕ → Range ℕ
+ghosts_words i c = record { start = ghosts_at i c; end = ghosts_at i c + 2 * c + 5 }
+
+abbrev pub lookup_words : ℕ → Range ℕ
+lookup_words c = record { start = lookup_at c; end = end_at c }
 
 unfoldable pub parts_of : ℕ → List ℕ → Parts
 parts_of c w = record {

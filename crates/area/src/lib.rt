@@ -3,16 +3,18 @@
 //
 //     | kind | capacity | target | .. 43 | residents | B1 | B2 | lookup |
 //
-// A side is 0 for T1 and B1, 1 for T2 and B2; list 2 of the residents is the free slots.
+// A list of the residents is a number: 0 for T1, 1 for T2, 2 for the free slots.
 #![tactic(auto)]
 
 pub mod ghost_parts;
 pub mod lookup_part;
 pub mod resident_part;
 
-ghost use Rattle.std.specs.Prelude.{◌≡◌, ◌+◌, ◌*◌, ◌<◌, ◌≤◌, length};
+ghost use Rattle.std.specs.Prelude.{◌≡◌, ◌+◌, ◌*◌, ◌≤◌, length};
 ghost use Rattle.area_state.specs.Parts.{set_target};
-ghost use Rattle.area.specs.Area.{kind_of, capacity_of, target_of, side_of, Starts, parts_of, Fit, Became};
+ghost use Rattle.area.specs.Area.{kind_of, capacity_of, target_of, Starts, parts_of, Fit, Became};
+
+use rules::Side;
 
 // How an area of capacity c is cut: a header, then the residents, B1, B2 and the lookup. B1 starts at
 // B1_PER_FRAME * c + B1_BASE, and likewise the others; a ghost list has GHOSTS_PER_FRAME * c + GHOSTS_BASE words. In code
@@ -73,12 +75,12 @@ pub fn set_target(area: &mut [u64], c: usize, t: u64)
 }
 
 // Where the ghost list of a side starts.
-pub fn ghosts_at(c: usize, i: usize) -> usize
-    requires { (c ≤ 1024) × (i < 2) }
-    ensures { Starts c (side_of i) result }
+pub fn ghosts_at(c: usize, s: Side) -> usize
+    requires { c ≤ 1024 }
+    ensures { Starts c s result }
 {
-    if i == 0 {
-        return B1_PER_FRAME * c + B1_BASE;
+    match s {
+        Side::First => B1_PER_FRAME * c + B1_BASE,
+        Side::Second => B2_PER_FRAME * c + B2_BASE,
     }
-    B2_PER_FRAME * c + B2_BASE
 }

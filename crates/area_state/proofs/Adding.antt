@@ -5,7 +5,8 @@ use Prim.Native.Nat.{ℕ, ◌^◌, ◌<◌}
 use native.Mathlib.Omega.{arith}
 use lib.ListN.{length}
 use lib.Dec.{eqb}
-use Rattle.rules.specs.State.{Side, list}
+use Rattle.rules.specs.State.{list}
+use Rattle.rules.specs.declared.Side.{Side}
 use Rattle.rings.specs.Members.{without}
 use Rattle.residents.specs.Changes.{top_of, added_front, added_end}
 use Rattle.residents.proofs.Steps.{add_front_residents, add_end_residents}

@@ -7,7 +7,9 @@ use native.Mathlib.Omega.{arith}
 use native.Mathlib.Nat.{not-suc-le-zero}
 use lib.ListN.{length, drop}
 use Rattle.rules.specs.Lists.{times, drop_last, last}
-use Rattle.rules.specs.State.{Entry, pages, without, Lists, Side, first, second, list, set_list, leaves, seen, Sound}
+use Rattle.rules.specs.State.{Entry, pages, without, Lists, list, set_list, leaves, seen, Sound}
+use Rattle.rules.specs.declared.Side.{Side}
+use Rattle.rules.specs.declared.Side.TheVariants.{First as first, Second as second}
 use Rattle.rules.proofs.ListLaws.{eqb_self, one_self, split_last, times_pages_append, without_append, without_none}
 use Rattle.cells.specs.Cells.{next_of, prev_of}
 use Rattle.rings.specs.Members.{Mem}

@@ -8,7 +8,9 @@ use native.Mathlib.Omega.{arith}
 use native.Mathlib.Nat.{not-suc-le-zero}
 use lib.ListN.{length, get_or, drop}
 use lib.Dec.{eqb}
-use Rattle.rules.specs.State.{Side, first, second, list, set_list}
+use Rattle.rules.specs.State.{list, set_list}
+use Rattle.rules.specs.declared.Side.{Side}
+use Rattle.rules.specs.declared.Side.TheVariants.{First as first, Second as second}
 use Rattle.rules.specs.Car.{Car, car, Resident}
 use Rattle.rings.specs.Members.{Mem, without}
 use Rattle.rings.specs.Rings.{Ring, changed}

@@ -7,7 +7,9 @@ use Prim.Native.Nat.{ℕ, ◌<◌, ◌≤◌}
 use native.Mathlib.Omega.{arith}
 use lib.ListN.{length, take}
 use lib.Dec.{eqb}
-use Rattle.rules.specs.State.{Side, first, second, leaves, without as without_page}
+use Rattle.rules.specs.State.{leaves, without as without_page}
+use Rattle.rules.specs.declared.Side.{Side}
+use Rattle.rules.specs.declared.Side.TheVariants.{First as first, Second as second}
 use Rattle.rules.specs.Calls.{ghost}
 use Rattle.rules.specs.Ghosts.{record_in}
 use Rattle.rules.specs.Car.{Car, car, Resident}

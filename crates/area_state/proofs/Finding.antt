@@ -7,7 +7,9 @@ use Prim.Native.Nat.{ℕ, ◌<◌, ◌≤◌}
 use native.Mathlib.Omega.{arith}
 use borrow.Author.Tests.{lt-ltb}
 use Rattle.rules.specs.Lists.{times, holds}
-use Rattle.rules.specs.State.{Side, first, second, found, resident}
+use Rattle.rules.specs.State.{found, resident}
+use Rattle.rules.specs.declared.Side.{Side}
+use Rattle.rules.specs.declared.Side.TheVariants.{First as first, Second as second}
 use Rattle.rules.specs.Calls.{ghost, nowhere}
 use Rattle.rules.specs.Stages.{place_of}
 use Rattle.rings.specs.Members.{Mem}

@@ -6,7 +6,9 @@ use Prim.Native.Nat.{ℕ, ◌<◌}
 use native.Mathlib.Omega.{arith}
 use lib.ListN.{length}
 use Rattle.rules.specs.Lists.{leave, drop_last}
-use Rattle.rules.specs.State.{Side, first, second, ghosts, set_ghosts as set_ghosts_of}
+use Rattle.rules.specs.State.{ghosts, set_ghosts as set_ghosts_of}
+use Rattle.rules.specs.declared.Side.{Side}
+use Rattle.rules.specs.declared.Side.TheVariants.{First as first, Second as second}
 use Rattle.rules.specs.Ghosts.{drop_oldest}
 use Rattle.rules.specs.Car.{car, Resident}
 use Rattle.cells.specs.Cells.{prev_of}

@@ -4,7 +4,9 @@ use mathlib.Core.List.{List, map}
 use Prim.Native.Nat.{ℕ, ◌<◌}
 use native.Mathlib.Omega.{arith}
 use lib.Dec.{eqb}
-use Rattle.rules.specs.State.{Side, first, second, entry, list, ghosts, without as without_page}
+use Rattle.rules.specs.State.{entry, list, ghosts, without as without_page}
+use Rattle.rules.specs.declared.Side.{Side}
+use Rattle.rules.specs.declared.Side.TheVariants.{First as first, Second as second}
 use Rattle.rules.specs.Car.{clocked}
 use Rattle.rings.specs.Members.{Mem, without}
 use Rattle.residents.specs.Residents.{frame_of, bit_of}

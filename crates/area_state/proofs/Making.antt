@@ -5,7 +5,8 @@ use mathlib.Core.List.{List, [], ◌∷◌}
 use Prim.Native.Nat.{ℕ, zero, suc, ◌<◌, ◌≤◌}
 use native.Mathlib.Omega.{arith}
 use Rattle.rules.specs.Lists.{count_from}
-use Rattle.rules.specs.State.{Side, first, second}
+use Rattle.rules.specs.declared.Side.{Side}
+use Rattle.rules.specs.declared.Side.TheVariants.{First as first, Second as second}
 use Rattle.rules.specs.Car.{new}
 use Rattle.rings.specs.Members.{Mem, up_from}
 use Rattle.rings.proofs.Members.{same_or_other, below_mem}

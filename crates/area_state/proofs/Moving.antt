@@ -5,7 +5,9 @@ use mathlib.Core.Logic.{◌⊎◌, ⊎_elim}
 use mathlib.Core.List.{List, [], ◌∷◌, ◌++◌, map}
 use Prim.Native.Nat.{ℕ, ◌<◌}
 use native.Mathlib.Omega.{arith}
-use Rattle.rules.specs.State.{Side, first, second, set_list, leaves, without as without_page}
+use Rattle.rules.specs.State.{set_list, leaves, without as without_page}
+use Rattle.rules.specs.declared.Side.{Side}
+use Rattle.rules.specs.declared.Side.TheVariants.{First as first, Second as second}
 use Rattle.rules.specs.Car.{Car, car, Resident, with_bit}
 use Rattle.rings.specs.Members.{Mem, without}
 use Rattle.rings.specs.Rings.{changed}

@@ -5,7 +5,8 @@ use mathlib.Core.List.{List, [], ◌++◌}
 use Prim.Native.Nat.{ℕ, ◌+◌, ◌-◌, ◌*◌, ◌<◌, ◌≤◌}
 use native.Mathlib.Omega.{arith}
 use lib.ListN.{length, length-append}
-use Rattle.rules.specs.State.{Side, first, second}
+use Rattle.rules.specs.declared.Side.{Side}
+use Rattle.rules.specs.declared.Side.TheVariants.{First as first, Second as second}
 use Rattle.rings.specs.Members.{Mem, Fresh, Distinct, without}
 use Rattle.rings.specs.Rings.{out_of, together}
 use Rattle.rings.proofs.Members.{same_or_other, low_or_high, below_mem}

@@ -5,7 +5,9 @@ use mathlib.Core.List.{List, [], ◌∷◌, map}
 use Prim.Native.Nat.{ℕ, ◌*◌, ◌^◌, ◌<◌}
 use native.Mathlib.Omega.{arith}
 use Rattle.rules.specs.Lists.{Each}
-use Rattle.rules.specs.State.{Side, first, second, Fits, IsPage, Ranged}
+use Rattle.rules.specs.State.{Fits, IsPage, Ranged}
+use Rattle.rules.specs.declared.Side.{Side}
+use Rattle.rules.specs.declared.Side.TheVariants.{First as first, Second as second}
 use Rattle.rules.specs.Car.{WellFormed}
 use Rattle.rings.specs.Members.{Mem}
 use Rattle.lookup.specs.Part.{page_of}

@@ -9,7 +9,9 @@ use lib.ListN.{length, length-map}
 use lib.Dec.{ltb}
 use borrow.Author.Tests.{ltb-true, ltb-false}
 use Rattle.rules.specs.Lists.{one, times}
-use Rattle.rules.specs.State.{Side, first, second, pages, Sound}
+use Rattle.rules.specs.State.{pages, Sound}
+use Rattle.rules.specs.declared.Side.{Side}
+use Rattle.rules.specs.declared.Side.TheVariants.{First as first, Second as second}
 use Rattle.rules.specs.Car.{slots, taken, Obeys}
 use Rattle.rules.proofs.ListLaws.{times_append}
 use Rattle.rings.specs.Members.{Mem, Distinct}

@@ -4,7 +4,8 @@ use mathlib.Core.List.{List}
 use Prim.Native.Nat.{ℕ, ◌^◌, ◌<◌, ◌≤◌}
 use native.Mathlib.Omega.{arith}
 use lib.Dec.{eqb}
-use Rattle.rules.specs.State.{with_frame, Side, changed_in, changed}
+use Rattle.rules.specs.State.{with_frame, changed_in, changed}
+use Rattle.rules.specs.declared.Side.{Side}
 use Rattle.rules.specs.Car.{Car, car, Resident, with_bit}
 use Rattle.rings.specs.Members.{Mem}
 use Rattle.residents.specs.Residents.{Residents}

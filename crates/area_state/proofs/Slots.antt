@@ -4,7 +4,7 @@ use mathlib.Core.Logic.{◌⊎◌, inl, inr, ⊎_elim}
 use mathlib.Core.List.{List, [], ◌∷◌, ◌++◌}
 use Prim.Native.Nat.{ℕ, ◌<◌}
 use native.Mathlib.Omega.{arith}
-use Rattle.rules.specs.State.{Side}
+use Rattle.rules.specs.declared.Side.{Side}
 use Rattle.rings.specs.Members.{Mem, without}
 use Rattle.rings.specs.Rings.{changed, out_of, fronted_in, ended_in}
 use Rattle.rings.proofs.Members.{same_or_other, not_mem, fresh_without}

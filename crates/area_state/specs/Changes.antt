@@ -1,6 +1,6 @@
 -- What each operation of a store does to the parts. Assumes nothing.
 use Rattle.std.specs.Prelude.{Bool, true, false, List, ℕ, eqb}
-use Rattle.rules.specs.State.{Side}
+use Rattle.rules.specs.declared.Side.{Side}
 use Rattle.rules.specs.Stages.{start_target}
 use Rattle.residents.specs.Changes.{with_frame, with_bit, promoted, sent_back, freed, top_of, added_front, added_end, made as made_residents}
 use Rattle.ghosts.specs.Ghosts.{count_of, record_cell, recorded, forgotten, made as made_ghosts}

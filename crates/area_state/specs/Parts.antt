@@ -2,7 +2,9 @@
 --
 -- A place of the lookup is a slot (0 to c - 1), c + a cell of B1, or 2c + a cell of B2. A page stands in the lookup alone, at the place of what it belongs to.
 use Rattle.std.specs.Prelude.{List, map, ℕ, ◌+◌, ◌*◌, ◌<◌, ◌≤◌, eqb}
-use Rattle.rules.specs.State.{entry, Side, first, second, choose}
+use Rattle.rules.specs.State.{entry, choose}
+use Rattle.rules.specs.declared.Side.{Side}
+use Rattle.rules.specs.declared.Side.TheVariants.{First as first, Second as second}
 use Rattle.rules.specs.Car.{Car, car, clocked, Resident}
 use Rattle.rings.specs.Members.{Mem}
 use Rattle.residents.specs.Residents.{frame_of, bit_of, lists_of, IsResidents}

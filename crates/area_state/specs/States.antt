@@ -2,7 +2,9 @@
 --
 -- Slots name residents here: `resident_at` is the resident of a slot. The rules name them by page.
 use Rattle.std.specs.Prelude.{Bool, false, cond, List, [], ◌∷◌, ◌++◌, ℕ, eqb, get_or, drop}
-use Rattle.rules.specs.State.{entry, with_frame, Side, second, list, set_list, set_target, leaves, changed_in}
+use Rattle.rules.specs.State.{entry, with_frame, list, set_list, set_target, leaves, changed_in}
+use Rattle.rules.specs.declared.Side.{Side}
+use Rattle.rules.specs.declared.Side.TheVariants.{Second as second}
 use Rattle.rules.specs.Calls.{ghost}
 use Rattle.rules.specs.Ghosts.{record_in, remove_ghost}
 use Rattle.rules.specs.Car.{Car, car, clocked, Resident, with_bit, at_end}

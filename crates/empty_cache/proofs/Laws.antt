@@ -7,7 +7,8 @@ use lib.ListN.{length, get_or, set, drop, length-set}
 use lib.Seq.{get_or-set_same, get_or-set_other, drop-set-lt}
 use borrow.Author.Rules.{rules}
 use borrow.Author.Tests.{lt-ltb, le-ltb}
-use Rattle.rules.specs.State.{Side, first, second}
+use Rattle.rules.specs.declared.Side.{Side}
+use Rattle.rules.specs.declared.Side.TheVariants.{First as first, Second as second}
 use Rattle.rules.specs.Car.{new}
 use Rattle.residents.specs.Residents as residents
 use Rattle.residents.specs.Changes as changes
@@ -25,7 +26,8 @@ use Rattle.area.specs.Stored.{Stored, state_in, Left}
 use Rattle.area.proofs.Laws.{ghosts_part, ghosts_written, lookup_written}
 use Rattle.area.proofs.Storing.{left}
 use Rattle.empty_cache.specs.Fresh.{Fits, headed, answer_of, Empty, New}
-use Rattle.empty_cache.specs.declared.Made.TheVariants.{Made, Refused}
+use Rattle.std.specs.Prelude.{Ok, Err}
+use Rattle.refusals.specs.declared.Refusal.TheVariants.{Capacity, Area}
 use Rattle.area.proofs.Laws.{residents_room, ghosts_room}
 use Rattle.area.proofs.Rooms.{lookup_room, have_room}
 
@@ -134,15 +136,15 @@ pub headed_is : (kind c k i : ℕ) (w : List ℕ) → k ≡ buckets_of c → i �
 unfolding headed
 headed_is kind c k i w q e = rw (e, q) refl
 
-pub refused_capacity : (kind c : ℕ) (w : List ℕ) → 1024 < c → New kind c w w (Refused 1)
+pub refused_capacity : (kind c : ℕ) (w : List ℕ) → 1024 < c → New kind c w w (Err Capacity)
 unfolding answer_of
 refused_capacity kind c w h = record { answer = rw (lt-ltb 1024 c h) refl; area = refl }
 
-pub refused_area : (kind c : ℕ) (w : List ℕ) → c ≤ 1024 → length w < 24 * c + 64 → New kind c w w (Refused 2)
+pub refused_area : (kind c : ℕ) (w : List ℕ) → c ≤ 1024 → length w < 24 * c + 64 → New kind c w w (Err Area)
 unfolding answer_of
 refused_area kind c w h k = record { answer = rw (le-ltb 1024 c h, lt-ltb (length w) (24 * c + 64) k) refl; area = refl }
 
-pub made_new : (kind c : ℕ) (w v : List ℕ) → c ≤ 1024 → 24 * c + 64 ≤ length w → Empty kind c w v → New kind c w v Made
+pub made_new : (kind c : ℕ) (w v : List ℕ) → c ≤ 1024 → 24 * c + 64 ≤ length w → Empty kind c w v → New kind c w v (Ok tt)
 unfolding answer_of
 made_new kind c w v h k e = record { answer = rw (le-ltb 1024 c h, le-ltb (length w) (24 * c + 64) k) refl; area = e }
 

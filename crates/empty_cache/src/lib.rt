@@ -2,7 +2,7 @@
 // the kind 1 and 2. Each part is lent to the crate that it belongs to.
 #![tactic(auto)]
 
-ghost use Rattle.std.specs.Prelude.{◌≡◌, ◌<◌, ◌/◌};
+ghost use Rattle.std.specs.Prelude.{◌≡◌, ◌/◌};
 ghost use Rattle.rules.specs.Car.{new as new_state};
 ghost use Rattle.residents.specs.Changes.{made as made_residents};
 ghost use Rattle.ghosts.specs.Ghosts.{made as made_ghosts};
@@ -10,16 +10,12 @@ ghost use Rattle.lookup.specs.Buckets.{buckets_of, places_of};
 ghost use Rattle.lookup.specs.Changes.{made as made_lookup};
 ghost use Rattle.area_state.specs.Parts.{set_residents, set_ghosts, set_lookup};
 ghost use Rattle.area_state.specs.Changes.{made as made_parts};
-ghost use Rattle.area.specs.Area.{residents_in, ghosts_in, lookup_in, side_of, parts_of, Fit, Became};
+ghost use Rattle.area.specs.Area.{residents_in, ghosts_in, lookup_in, parts_of, Became};
 ghost use Rattle.area.specs.Stored.{Stored, Left};
 ghost use Rattle.empty_cache.specs.Fresh.{Fits, headed, Empty, New};
 
-// What `new` answers: an empty cache is made, or refused by a number.
-#[derive(Clone, Copy)]
-pub enum Made {
-    Made,
-    Refused(u8),
-}
+use refusals::Refusal;
+use rules::Side;
 
 // No residents: the free slots are 0, 1, 2 and so on.
 fn make_residents(area: &mut [u64], c: usize)
@@ -31,11 +27,11 @@ fn make_residents(area: &mut [u64], c: usize)
 }
 
 // No ghosts of a side.
-fn make_ghosts(area: &mut [u64], c: usize, i: usize)
-    requires { Fit c area.old (i < 2) }
-    ensures { Became c area.old area.new (set_ghosts (side_of i) (made_ghosts c (ghosts_in (side_of i) c area.old)) (parts_of c area.old)) }
+fn make_ghosts(area: &mut [u64], c: usize, s: Side)
+    requires { Fits c area.old }
+    ensures { Became c area.old area.new (set_ghosts s (made_ghosts c (ghosts_in s c area.old)) (parts_of c area.old)) }
 {
-    let a = area::ghosts_at(c, i);
+    let a = area::ghosts_at(c, s);
     let b = a + area::GHOSTS_PER_FRAME * c + area::GHOSTS_BASE;
     ghosts::make(&mut area[a..b], c);
 }
@@ -58,8 +54,8 @@ fn make_parts(area: &mut [u64], c: usize)
     ensures { Became c area.old area.new (made_parts c (parts_of c area.old)) }
 {
     make_residents(area, c);
-    make_ghosts(area, c, 0);
-    make_ghosts(area, c, 1);
+    make_ghosts(area, c, Side::First);
+    make_ghosts(area, c, Side::Second);
     make_lookup(area, c);
     let t = c / 2;
     area::set_target(area, c, t as u64);
@@ -87,19 +83,19 @@ fn write(area: &mut [u64], kind: u64, c: usize)
 }
 
 // An empty cache of that kind and of capacity c, whatever the words are; refused are a capacity above 1,024, and then an area of fewer than 24c + 64 words.
-pub fn new(area: &mut [u64], kind: u64, c: u64) -> Made
+pub fn new(area: &mut [u64], kind: u64, c: u64) -> Result<(), Refusal>
     ensures { New kind c area.old area.new result }
 {
     if (area::MAX_CAPACITY as u64) < c {
-        return Made::Refused(1);
+        return Err(Refusal::Capacity);
     }
     let n = c as usize;
     let need = area::AREA_PER_FRAME * n + area::AREA_BASE;
     if area.len() < need {
-        return Made::Refused(2);
+        return Err(Refusal::Area);
     }
     write(area, kind, n);
-    Made::Made
+    Ok(())
 }
 
 // The cache is empty again. Kind and capacity stay.

@@ -2,7 +2,6 @@
 -- the dead places; the sums; the parts; all. Assumes nothing.
 use mathlib.Core.Path.{◌≡◌, refl, sym, ap, ◌∙◌}
 use mathlib.Core.Bool.{Bool, true, false}
-use mathlib.Core.Logic.{⊎_elim}
 use mathlib.Core.List.{List}
 use Prim.Native.Nat.{ℕ, ◌+◌, ◌-◌, ◌*◌, ◌<◌, ◌≤◌}
 use native.Mathlib.Omega.{arith}
@@ -10,9 +9,9 @@ use lib.ListN.{length, get_or}
 use lib.Dec.{leb}
 use borrow.Author.Rules.{rules}
 use borrow.Author.Tests.{eq-eqb, ne_eqb, lt-ltb, le-ltb}
-use Rattle.rules.specs.State.{Side, first, second}
+use Rattle.rules.specs.declared.Side.{Side}
+use Rattle.rules.specs.declared.Side.TheVariants.{First as first, Second as second}
 use Rattle.rings.specs.Rings.{members_of}
-use Rattle.rings.proofs.Members.{same_or_other}
 use Rattle.tails.specs.Tails.{tail_of}
 use Rattle.residents.specs.Residents as residents
 use Rattle.residents.specs.Tests.{residents_test}
@@ -21,9 +20,9 @@ use Rattle.ghosts.specs.Ghosts.{ghosts_test}
 use Rattle.lookup.specs.Buckets.{buckets_of, places_of}
 use Rattle.lookup.specs.Part as lookup
 use Rattle.lookup_check.specs.Check.{lookup_test}
-use Rattle.area_state.specs.Parts.{Parts}
+use Rattle.area_state.specs.Parts.{Parts, number_of}
 use Rattle.area.specs.Part.{part}
-use Rattle.area.specs.Area.{residents_in, ghosts_in, lookup_in, side_of, end_at, parts_of, Starts, Fit}
+use Rattle.area.specs.Area.{residents_in, ghosts_in, lookup_in, end_at, parts_of, Starts, Fit}
 use Rattle.area.proofs.Laws.{ghosts_part}
 use Rattle.state_check.specs.Check.{Fits, Listed, Few, CanTellAll, CanSpare, deads_test, row_count, live_count, lists_test, held_test, dead_test, sums_test, parts_test, state_test}
 use Rattle.area.proofs.Laws.{residents_room, ghosts_room}
@@ -70,10 +69,10 @@ spare_asks c i a from w small size s f g n q =
     let z : length (ghosts.spare_of (ghosts_in i c w) c) ≡ c - n = omega arith in
     rw (ghosts_part c i a w s) (record { tell = record { small = small; within = g.room.head; ring = g.spares; lookup = lookup_room c w small size; first = f }; count = z })
 
-pub spare_less : (c i n : ℕ) (w : List ℕ) (from : ℕ) → CanSpare c w i from → n ≡ ghosts.count_of (ghosts_in (side_of i) c w) → n ≤ c
+pub spare_less : (c : ℕ) (i : Side) (n : ℕ) (w : List ℕ) (from : ℕ) → CanSpare c w i from → n ≡ ghosts.count_of (ghosts_in i c w) → n ≤ c
 spare_less c i n w from h q =
-    let e : ghosts.count_of (ghosts_in (side_of i) c w) ≡ length (ghosts.live_of (ghosts_in (side_of i) c w) c) = h.ghosts.count in
-    let z : length (ghosts.live_of (ghosts_in (side_of i) c w) c) + length (ghosts.spare_of (ghosts_in (side_of i) c w) c) ≡ c = h.ghosts.all in
+    let e : ghosts.count_of (ghosts_in i c w) ≡ length (ghosts.live_of (ghosts_in i c w) c) = h.ghosts.count in
+    let z : length (ghosts.live_of (ghosts_in i c w) c) + length (ghosts.spare_of (ghosts_in i c w) c) ≡ c = h.ghosts.all in
     omega arith
 
 pub spare_is : (c : ℕ) (i : Side) (a from : ℕ) (w k : List ℕ) (r : Bool) → Starts c i a → r ≡ deads_test k (places_of c) from (members_of (tail_of 1 (part a (a + 2 * c + 5) w)) c (c + 1)) → r ≡ deads_test k (places_of c) from (ghosts.spare_of (ghosts_in i c w) c)
@@ -119,15 +118,15 @@ module _ (c : ℕ) (w : List ℕ) (l : Listed c w) where
   small_ghosts first = let h : ghosts.count_of (ghosts_in first c w) ≤ c = ghost_few c (parts_of c w) (are c w l) first in let s : c ≤ 1024 = l.fits.small in omega arith
   small_ghosts second = let h : ghosts.count_of (ghosts_in second c w) ≤ c = ghost_few c (parts_of c w) (are c w l) second in let s : c ≤ 1024 = l.fits.small in omega arith
 
-  pub slots_few : (i r : ℕ) → i < 2 → r ≡ residents.count_of (residents_in c w) i → Few (residents.count_of (residents_in c w) i) r
-  slots_few i r h q =
-      record {
-        is = q;
-        small = rw q (⊎_elim (λ z. rw z small_first) (λ n. let z : i ≡ 1 = omega arith in rw z small_second) (same_or_other i 0));
-      }
+  small_slots : (i : Side) → residents.count_of (residents_in c w) (number_of i) ≤ 1024
+  small_slots first = small_first
+  small_slots second = small_second
 
-  pub cells_few : (i r : ℕ) → i < 2 → r ≡ ghosts.count_of (ghosts_in (side_of i) c w) → Few (ghosts.count_of (ghosts_in (side_of i) c w)) r
-  cells_few i r h q = record { is = q; small = rw q (small_ghosts (side_of i)) }
+  pub slots_few : (i : Side) (n r : ℕ) → n ≡ number_of i → r ≡ residents.count_of (residents_in c w) n → Few (residents.count_of (residents_in c w) (number_of i)) r
+  slots_few i n r z q = let y = rw z at q in record { is = y; small = rw y (small_slots i) }
+
+  pub cells_few : (i : Side) (r : ℕ) → r ≡ ghosts.count_of (ghosts_in i c w) → Few (ghosts.count_of (ghosts_in i c w)) r
+  cells_few i r q = record { is = q; small = rw q (small_ghosts i) }
 
   pub live_few : live_count (parts_of c w) ≤ 4096
   unfolding parts_of live_count
@@ -150,8 +149,8 @@ module _ (c : ℕ) (w : List ℕ) (l : Listed c w) where
   pub free_fit : Fit c w (residents.IsResidents (residents_in c w) c)
   free_fit = fit_of c w _ l.fits free_can
 
-  pub spare_fit : (i from : ℕ) → i < 2 → from ≤ 2 * c → CanSpare c w i from
-  spare_fit i from h f = record { small = l.fits.small; size = l.fits.size; side = h; first = f; ghosts = spare_can (side_of i) }
+  pub spare_fit : (i : Side) (from : ℕ) → from ≤ 2 * c → CanSpare c w i from
+  spare_fit i from f = record { small = l.fits.small; size = l.fits.size; first = f; ghosts = spare_can i }
 
 pub twice : (c : ℕ) → c ≤ 2 * c
 twice c = omega arith

@@ -7,7 +7,8 @@ use native.Mathlib.Omega.{arith}
 use lib.ListN.{length, get_or, take, drop, length-map}
 use lib.Seq.{get_or-drop}
 use Rattle.rules.specs.Lists.{Each}
-use Rattle.rules.specs.State.{first, second, pages, Sound, Ranged, Fits}
+use Rattle.rules.specs.State.{pages, Sound, Ranged, Fits}
+use Rattle.rules.specs.declared.Side.TheVariants.{First as first, Second as second}
 use Rattle.rules.specs.Arc as arc
 use Rattle.rules.specs.Car.{Car, Resident}
 use Rattle.lookup.specs.Part.{page_of}

@@ -8,7 +8,8 @@ use Prim.Native.Nat.{ℕ, ◌+◌, ◌-◌, ◌*◌, ◌<◌}
 use native.Mathlib.Omega.{arith}
 use native.Mathlib.Nat.{zero-add}
 use lib.ListN.{length, length-append, length-map}
-use Rattle.rules.specs.State.{Side, first, second}
+use Rattle.rules.specs.declared.Side.{Side}
+use Rattle.rules.specs.declared.Side.TheVariants.{First as first, Second as second}
 use Rattle.rings.specs.Members.{Mem, Fresh, Distinct}
 use Rattle.rings.specs.Rings.{together}
 use Rattle.rings.proofs.Members.{same_or_other, low_or_high, not_mem, fresh, mem_append, mem_left, mem_right, distinct_append}

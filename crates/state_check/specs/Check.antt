@@ -1,6 +1,6 @@
 -- The test of an area, for any words of any length (RULES 2). Assumes nothing.
 use Rattle.std.specs.Prelude.{◌≡◌, Bool, true, false, cond, List, [], ◌∷◌, ℕ, ◌+◌, ◌*◌, ◌^◌, ◌<◌, ◌≤◌, eqb, ltb, leb, length, get_or}
-use Rattle.cells.specs.Cells.{In, prev_of}
+use Rattle.cells.specs.Cells.{prev_of}
 use Rattle.rings.specs.Rings.{Ring, members_of}
 use Rattle.tails.specs.Tails.{tail_of}
 use Rattle.residents.specs.Residents as residents
@@ -11,7 +11,8 @@ use Rattle.lookup.specs.Buckets.{buckets_of, places_of}
 use Rattle.lookup.specs.Part.{links_of, Room}
 use Rattle.lookup_check.specs.Check.{lookup_test}
 use Rattle.area_state.specs.Parts.{Parts}
-use Rattle.area.specs.Area.{kind_of, capacity_of, target_of, end_at, ghosts_in, side_of, parts_of}
+use Rattle.rules.specs.declared.Side.{Side}
+use Rattle.area.specs.Area.{kind_of, capacity_of, target_of, end_at, ghosts_in, parts_of}
 
 -- words of 64 bits, as every slice of u64 has them
 abbrev pub Words : List ℕ → Type 0
@@ -96,19 +97,14 @@ pub record CanTell (w : List ℕ) (a : ℕ) (k : List ℕ) (c s from : ℕ) : Ty
   pub lookup : Room k (places_of c) (buckets_of c)
   pub first : from ≤ 2 * c
 
--- that, and a cell x; that, and how many members the ring has
-pub record CanTellAt (w : List ℕ) (a : ℕ) (k : List ℕ) (c s from x : ℕ) : Type 0 where
-  pub tell : CanTell w a k c s from
-  pub cell : In (tail_of a w) x
-
+-- that, and how many members the ring has
 pub record CanTellAll (w : List ℕ) (a : ℕ) (k : List ℕ) (c s from n : ℕ) : Type 0 where
   pub tell : CanTell w a k c s from
   pub count : length (members_of (tail_of a w) c s) ≡ n
 
 -- the ghost list of a side, whose first cell has the place `from`
-pub record CanSpare (c : ℕ) (w : List ℕ) (i from : ℕ) : Type 0 where
+pub record CanSpare (c : ℕ) (w : List ℕ) (i : Side) (from : ℕ) : Type 0 where
   pub small : c ≤ 1024
   pub size : end_at c ≤ length w
-  pub side : i < 2
   pub first : from ≤ 2 * c
-  pub ghosts : ghosts.IsGhosts (ghosts_in (side_of i) c w) c
+  pub ghosts : ghosts.IsGhosts (ghosts_in i c w) c

@@ -7,81 +7,26 @@
 
 ghost use Rattle.std.specs.Prelude.{◌≡◌, ◌+◌, ◌*◌, ◌<◌};
 ghost use Rattle.rings.specs.Rings.{members_of};
-ghost use Rattle.rings.specs.Walks.{ahead, behind};
 ghost use Rattle.tails.specs.Tails.{tail_of};
 ghost use Rattle.residents.specs.Residents.{count_of as resident_count, lists_of, IsResidents};
 ghost use Rattle.residents.specs.Tests.{residents_test};
 ghost use Rattle.ghosts.specs.Ghosts.{count_of as ghost_count, spare_of, ghosts_test};
 ghost use Rattle.lookup.specs.Buckets.{buckets_of, places_of};
 ghost use Rattle.lookup_check.specs.Check.{lookup_test};
-ghost use Rattle.area.specs.Area.{residents_in, ghosts_in, lookup_in, side_of, parts_of, Fit};
-ghost use Rattle.state_check.specs.Check.{Fits, Listed, Few, CanTellAt, CanTellAll, CanSpare, dead_from, deads_test, live_count, row_count, lists_test, held_test, dead_test, sums_test, parts_test, state_test};
+ghost use Rattle.area_state.specs.Parts.{number_of};
+ghost use Rattle.area.specs.Area.{residents_in, ghosts_in, lookup_in, parts_of, Fit};
+ghost use Rattle.state_check.specs.Check.{Fits, Listed, Few, CanTellAll, CanSpare, deads_test, live_count, row_count, lists_test, held_test, dead_test, sums_test, parts_test, state_test};
 
-// Whether a member of the ring of s, in the words of w from a on, stands after the cell x, and whether one stands before the cell y, by both links, and is a dead place
-// of the lookup k, once `from` is added to it.
-fn dead_leads(w: &[u64], a: usize, k: &[u64], c: usize, s: usize, from: usize, x: usize) -> bool
-    requires { CanTellAt w.now a k.now c s from x }
-    ensures { result ≡ ahead (tail_of a w.now) c (dead_from k.now c from) x }
-{
-    let z = tails::next(w, a, x);
-    if c <= z {
-        return false;
-    }
-    if tails::prev(w, a, z) != x {
-        return false;
-    }
-    let m = 3 * c;
-    let e = from + z;
-    lookup::dead(k, m, e)
-}
+use rules::Side;
 
-fn dead_trails(w: &[u64], a: usize, k: &[u64], c: usize, s: usize, from: usize, y: usize) -> bool
-    requires { CanTellAt w.now a k.now c s from y }
-    ensures { result ≡ behind (tail_of a w.now) c (dead_from k.now c from) y }
-{
-    let z = tails::prev(w, a, y);
-    if c <= z {
-        return false;
-    }
-    if tails::next(w, a, z) != y {
-        return false;
-    }
-    let m = 3 * c;
-    let e = from + z;
-    lookup::dead(k, m, e)
-}
-
-// Whether each of the n members of the ring of s, in the words of w from a on, is a dead place of the lookup k, once `from` is added to it. As `rings::check`: the
-// ring is walked from both ends at once.
+// Whether each of the n members of the ring of s, in the words of w from a on, is a dead place of the lookup k, once
+// `from` is added to it.
 fn ring_dead(w: &[u64], a: usize, k: &[u64], c: usize, s: usize, from: usize, n: usize) -> bool
     requires { CanTellAll w.now a k.now c s from n }
     ensures { result ≡ deads_test k.now (places_of c) from (members_of (tail_of a w.now) c s) }
 {
-    let mut left = n;
-    let mut x = s;
-    let mut y = s;
-    while 1 < left {
-        if dead_leads(w, a, k, c, s, from, x) {
-            if dead_trails(w, a, k, c, s, from, y) {
-                x = tails::next(w, a, x);
-                y = tails::prev(w, a, y);
-                left = left - 2;
-            } else {
-                return false;
-            }
-        } else {
-            return false;
-        }
-    }
-    if left == 0 {
-        return tails::joins(w, a, x, y);
-    }
-    if dead_leads(w, a, k, c, s, from, x) {
-        let z = tails::next(w, a, x);
-        tails::joins(w, a, z, y)
-    } else {
-        false
-    }
+    let m = 3 * c;
+    tails::walk(w, a, c, s, n, |x| lookup::dead(k, m, from + x))
 }
 
 // Whether the places of the free slots are dead.
@@ -99,16 +44,16 @@ fn free_dead(area: &[u64], c: usize) -> bool
 }
 
 // Whether the places of the spare cells of a ghost list are dead; `from` is the place of its first cell.
-fn spare_dead(area: &[u64], c: usize, i: usize, from: usize) -> bool
-    requires { CanSpare c area.now i from }
-    ensures { result ≡ deads_test (lookup_in c area.now) (places_of c) from (spare_of (ghosts_in (side_of i) c area.now) c) }
+fn spare_dead(area: &[u64], c: usize, side: Side, from: usize) -> bool
+    requires { CanSpare c area.now side from }
+    ensures { result ≡ deads_test (lookup_in c area.now) (places_of c) from (spare_of (ghosts_in side c area.now) c) }
 {
-    let a = area::ghosts_at(c, i);
+    let a = area::ghosts_at(c, side);
     let b = a + area::GHOSTS_PER_FRAME * c + area::GHOSTS_BASE;
     let l = area::LOOKUP_PER_FRAME * c + area::LOOKUP_BASE;
     let e = area::AREA_PER_FRAME * c + area::AREA_BASE;
     let s = c + 1;
-    let n = area::ghost_parts::count(area, c, i);
+    let n = area::ghost_parts::count(area, c, side);
     let m = c - n;
     ring_dead(&area[a..b], 1, &area[l..e], c, s, from, m)
 }
@@ -122,11 +67,11 @@ fn check_residents(area: &[u64], c: usize) -> bool
     residents::check(&area[area::HEADER..b], c)
 }
 
-fn check_ghosts(area: &[u64], c: usize, i: usize) -> bool
-    requires { Fit c area.now (i < 2) }
-    ensures { result ≡ ghosts_test (ghosts_in (side_of i) c area.now) c }
+fn check_ghosts(area: &[u64], c: usize, side: Side) -> bool
+    requires { Fits c area.now }
+    ensures { result ≡ ghosts_test (ghosts_in side c area.now) c }
 {
-    let a = area::ghosts_at(c, i);
+    let a = area::ghosts_at(c, side);
     let b = a + area::GHOSTS_PER_FRAME * c + area::GHOSTS_BASE;
     ghosts::check(&area[a..b], c)
 }
@@ -147,30 +92,25 @@ fn check_lists(area: &[u64], c: usize) -> bool
     requires { Fits c area.now }
     ensures { result ≡ lists_test c (parts_of c area.now) }
 {
-    if check_residents(area, c) {
-        if check_ghosts(area, c, 0) {
-            check_ghosts(area, c, 1)
-        } else {
-            false
-        }
-    } else {
-        false
-    }
+    check_residents(area, c)
+        && check_ghosts(area, c, Side::First)
+        && check_ghosts(area, c, Side::Second)
 }
 
 // How many slots T1 or T2 has, and how many cells a ghost list.
-fn slots(area: &[u64], c: usize, i: usize) -> usize
-    requires { Listed c area.now × (i < 2) }
-    ensures { Few (resident_count (residents_in c area.now) i) result }
+fn slots(area: &[u64], c: usize, side: Side) -> usize
+    requires { Listed c area.now }
+    ensures { Few (resident_count (residents_in c area.now) (number_of side)) result }
 {
-    area::resident_part::count(area, c, i)
+    let l = area::resident_part::number(side);
+    area::resident_part::count(area, c, l)
 }
 
-fn cells(area: &[u64], c: usize, i: usize) -> usize
-    requires { Listed c area.now × (i < 2) }
-    ensures { Few (ghost_count (ghosts_in (side_of i) c area.now)) result }
+fn cells(area: &[u64], c: usize, side: Side) -> usize
+    requires { Listed c area.now }
+    ensures { Few (ghost_count (ghosts_in side c area.now)) result }
 {
-    area::ghost_parts::count(area, c, i)
+    area::ghost_parts::count(area, c, side)
 }
 
 // How many pages T1 and B1 have together, and how many all four lists.
@@ -178,8 +118,8 @@ fn row(area: &[u64], c: usize) -> usize
     requires { Listed c area.now }
     ensures { result ≡ row_count (parts_of c area.now) }
 {
-    let t1 = slots(area, c, 0);
-    let b1 = cells(area, c, 0);
+    let t1 = slots(area, c, Side::First);
+    let b1 = cells(area, c, Side::First);
     t1 + b1
 }
 
@@ -187,10 +127,10 @@ fn live(area: &[u64], c: usize) -> usize
     requires { Listed c area.now }
     ensures { result ≡ live_count (parts_of c area.now) }
 {
-    let t1 = slots(area, c, 0);
-    let t2 = slots(area, c, 1);
-    let b1 = cells(area, c, 0);
-    let b2 = cells(area, c, 1);
+    let t1 = slots(area, c, Side::First);
+    let t2 = slots(area, c, Side::Second);
+    let b1 = cells(area, c, Side::First);
+    let b2 = cells(area, c, Side::Second);
     t1 + t2 + b1 + b2
 }
 
@@ -208,16 +148,10 @@ fn check_dead(area: &[u64], c: usize) -> bool
     requires { Listed c area.now }
     ensures { result ≡ dead_test c (parts_of c area.now) }
 {
-    if free_dead(area, c) {
-        if spare_dead(area, c, 0, c) {
-            let from = 2 * c;
-            spare_dead(area, c, 1, from)
-        } else {
-            false
-        }
-    } else {
-        false
-    }
+    let from = 2 * c;
+    free_dead(area, c)
+        && spare_dead(area, c, Side::First, c)
+        && spare_dead(area, c, Side::Second, from)
 }
 
 // What ARC asks of the lengths besides.
@@ -238,22 +172,16 @@ fn check_parts(area: &[u64], kind: u64, c: usize) -> bool
     requires { Fits c area.now }
     ensures { result ≡ parts_test kind c (parts_of c area.now) }
 {
-    if check_lists(area, c) {
-        if check_dead(area, c) {
-            if kind != 1 {
-                return check_held(area, c);
-            }
-            if check_sums(area, c) {
-                check_held(area, c)
-            } else {
-                false
-            }
-        } else {
-            false
-        }
-    } else {
-        false
+    if !check_lists(area, c) {
+        return false;
     }
+    if !check_dead(area, c) {
+        return false;
+    }
+    if kind != 1 {
+        return check_held(area, c);
+    }
+    check_sums(area, c) && check_held(area, c)
 }
 
 // Whether the words, whatever they are, are a writing of a well-formed state of that kind.

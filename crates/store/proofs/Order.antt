@@ -1,6 +1,6 @@
 -- The slots of a list one after the other, and which slots are taken. In order: the cells of a ring by their places; the slots of a list; the taken ones. Assumes nothing.
-use mathlib.Core.Path.{◌≡◌, sym, ap, ◌∙◌}
-use mathlib.Core.Bool.{Bool, true, false, false≢true}
+use mathlib.Core.Path.{◌≡◌, sym, ap, ◌∙◌, refl}
+use mathlib.Core.Bool.{Bool, true, false, false≢true, not}
 use mathlib.Core.Logic.{◌⊎◌, inl, inr}
 use mathlib.Core.List.{List, [], ◌∷◌}
 use Prim.Native.Nat.{ℕ, zero, suc, ◌+◌, ◌<◌}
@@ -10,6 +10,7 @@ use lib.Dec.{eqb, ltb}
 use lib.ListN.{length, get_or}
 use borrow.Author.Tests.{eqb-true, eq-eqb, lt-ltb, le-ltb}
 use Rattle.rules.specs.Lists.{one, times}
+use Rattle.rules.specs.declared.Side.{Side}
 use Rattle.rules.specs.Car.{slots, taken}
 use Rattle.cells.specs.Cells.{next_of, prev_of}
 use Rattle.rings.specs.Members.{Mem}
@@ -22,13 +23,13 @@ use Rattle.lookup.specs.Lookup.{Dead}
 use Rattle.area_state.specs.Parts.{number_of, state_of}
 use Rattle.area_state.proofs.Counts.{times_fresh, times_member}
 use Rattle.area_state.proofs.Lists.{list_is}
+use Rattle.area_state.proofs.Sides.{number_below}
 use Rattle.area_state.proofs.HoldsAs.{named, slots_of, live_in, spare_in}
 use Rattle.area_state.proofs.Pages.{slots_apart, slots_distinct, slot_somewhere, dead_not_held}
 use Rattle.area_state.proofs.Reading.{slots_read, state_slotted}
-use Rattle.area.specs.Area.{side_of, residents_in, lookup_in, parts_of}
+use Rattle.area.specs.Area.{residents_in, lookup_in, parts_of}
 use Rattle.area.specs.Stored.{Stored, state_in}
 use Rattle.store.specs.Store.{slots_at, NextIs}
-use Rattle.store.proofs.Steps.{number_of_lem}
 
 -- ---- the cells of a ring by their places
 links_first : (l : List ℕ) (a : ℕ) (xs : List ℕ) (b : ℕ) → Links l a xs b → next_of l a ≡ get_or xs 0 b
@@ -42,25 +43,25 @@ links_next l a (x ∷ xs) b (suc j) e h less at = links_next l x xs b j e h.2 (l
 
 module _ (c : ℕ) (w : List ℕ) (s : Stored c w) where
   -- ---- the slots of a list
-  pub slots_are : (i : ℕ) → i < 2 → slots_at i c w ≡ slots_of c (parts_of c w) i
+  pub slots_are : (i : Side) → slots_at i c w ≡ slots_of c (parts_of c w) (number_of i)
   unfolding state_in
-  slots_are i side = ap slots (list_is (side_of i) c (parts_of c w)) ∙ slots_read c (parts_of c w) (slots_of c (parts_of c w) (number_of (side_of i))) ∙ ap (slots_of c (parts_of c w)) (number_of_lem i side)
+  slots_are i = ap slots (list_is i c (parts_of c w)) ∙ slots_read c (parts_of c w) (slots_of c (parts_of c w) (number_of i))
 
-  ring : (i : ℕ) → i < 2 → Links (links_of c (residents_in c w)) (c + i) (slots_of c (parts_of c w) i) (c + i)
+  ring : (i : Side) → Links (links_of c (residents_in c w)) (c + number_of i) (slots_of c (parts_of c w) (number_of i)) (c + number_of i)
   unfolding parts_of
-  ring i side = (s.holds.residents.rings i (omega arith)).links
+  ring i = (s.holds.residents.rings (number_of i) (let l : number_of i < 2 = number_below i in omega arith)).links
 
-  pub start_is : (i r : ℕ) → i < 2 → r ≡ next_of (links_of c (residents_in c w)) (c + i) → r ≡ get_or (slots_at i c w) 0 (c + i)
-  start_is i r side q = q ∙ links_first _ (c + i) (slots_of c (parts_of c w) i) (c + i) (ring i side) ∙ ap (λ (l : List ℕ). get_or l 0 (c + i)) (sym (slots_are i side))
+  pub start_is : (i : Side) (r : ℕ) → r ≡ next_of (links_of c (residents_in c w)) (c + number_of i) → r ≡ get_or (slots_at i c w) 0 (c + number_of i)
+  start_is i r q = q ∙ links_first _ (c + number_of i) (slots_of c (parts_of c w) (number_of i)) (c + number_of i) (ring i) ∙ ap (λ (l : List ℕ). get_or l 0 (c + number_of i)) (sym (slots_are i))
 
-  after : (e r i j : ℕ) → r ≡ next_of (links_of c (residents_in c w)) e → i < 2 → j < length (slots_at i c w) → get_or (slots_at i c w) j 0 ≡ e → r ≡ get_or (slots_at i c w) (suc j) (c + i)
-  after e r i j q side less at =
+  after : (e r : ℕ) (i : Side) (j : ℕ) → r ≡ next_of (links_of c (residents_in c w)) e → j < length (slots_at i c w) → get_or (slots_at i c w) j 0 ≡ e → r ≡ get_or (slots_at i c w) (suc j) (c + number_of i)
+  after e r i j q less at =
       q
-      ∙ links_next _ (c + i) (slots_of c (parts_of c w) i) (c + i) j e (ring i side) (rw (slots_are i side) at less) (rw (slots_are i side) at at)
-      ∙ ap (λ (l : List ℕ). get_or l (suc j) (c + i)) (sym (slots_are i side))
+      ∙ links_next _ (c + number_of i) (slots_of c (parts_of c w) (number_of i)) (c + number_of i) j e (ring i) (rw (slots_are i) at less) (rw (slots_are i) at at)
+      ∙ ap (λ (l : List ℕ). get_or l (suc j) (c + number_of i)) (sym (slots_are i))
 
   pub next_is : (e r : ℕ) → r ≡ next_of (links_of c (residents_in c w)) e → NextIs c w e r
-  next_is e r q = record { next = λ i j side less at. after e r i j q side less at }
+  next_is e r q = record { next = λ i j less at. after e r i j q less at }
 
   -- ---- the taken slots: those whose place is not dead
   module _ (e : ℕ) (low : e < c) where
@@ -92,16 +93,12 @@ module _ (c : ℕ) (w : List ℕ) (s : Stored c w) where
         go i hi m (inl z) = let r = free_dead (rw z at m) in inl (q ∙ r.0, r.1)
         go i hi m (inr n) = let r = held_live i (omega arith) m in inr ((λ y. r.0 (sym q ∙ y)), r.1)
 
-    pub taken_no : (d : Bool) → d ≡ eqb (prev_of (lookup.links_of (places_of c) (lookup_in c w)) e) e → d ≡ true → false ≡ ltb 0 (taken e (state_in c w).lists)
-    taken_no d q y = go (both d q)
+    -- a slot is taken where it is not dead
+    pub taken_is : (d : Bool) → d ≡ eqb (prev_of (lookup.links_of (places_of c) (lookup_in c w)) e) e → not d ≡ ltb 0 (taken e (state_in c w).lists)
+    taken_is d q = go d (both d q)
       where
-        go : ((d ≡ true) × (ltb 0 (taken e (state_in c w).lists) ≡ false)) ⊎ ((d ≡ true → ⊥) × (ltb 0 (taken e (state_in c w).lists) ≡ true)) → false ≡ ltb 0 (taken e (state_in c w).lists)
-        go (inl r) = sym r.1
-        go (inr r) = absurd (r.0 y)
-
-    pub taken_yes : (d : Bool) → d ≡ eqb (prev_of (lookup.links_of (places_of c) (lookup_in c w)) e) e → d ≡ false → true ≡ ltb 0 (taken e (state_in c w).lists)
-    taken_yes d q n = go (both d q)
-      where
-        go : ((d ≡ true) × (ltb 0 (taken e (state_in c w).lists) ≡ false)) ⊎ ((d ≡ true → ⊥) × (ltb 0 (taken e (state_in c w).lists) ≡ true)) → true ≡ ltb 0 (taken e (state_in c w).lists)
-        go (inl r) = absurd (let z : ◌≡◌ {A = Bool} true false = sym r.0 ∙ n in false≢true (sym z))
-        go (inr r) = sym r.1
+        go : (t : Bool) → ((t ≡ true) × (ltb 0 (taken e (state_in c w).lists) ≡ false)) ⊎ ((t ≡ true → ⊥) × (ltb 0 (taken e (state_in c w).lists) ≡ true)) → not t ≡ ltb 0 (taken e (state_in c w).lists)
+        go true (inl r) = sym r.1
+        go true (inr r) = absurd (r.0 refl)
+        go false (inl r) = absurd (false≢true r.0)
+        go false (inr r) = sym r.1

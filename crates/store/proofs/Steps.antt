@@ -2,18 +2,12 @@
 -- Assumes nothing.
 use mathlib.Core.Path.{◌≡◌, refl, ap, ◌∙◌}
 use mathlib.Core.List.{List}
-use Prim.Native.Nat.{ℕ, zero, suc, ◌<◌}
-use native.Mathlib.Omega.{arith}
-use Rattle.rules.specs.State.{Side, first, second}
-use Rattle.area_state.specs.Parts.{Parts, ghosts_of, set_lookup, number_of}
-use Rattle.area.specs.Area.{side_of, residents_in, ghosts_in, lookup_in, parts_of, Fit, Became}
+use Prim.Native.Nat.{ℕ}
+use Rattle.rules.specs.declared.Side.{Side}
+use Rattle.rules.specs.declared.Side.TheVariants.{First as first, Second as second}
+use Rattle.area_state.specs.Parts.{Parts, ghosts_of, set_lookup}
+use Rattle.area.specs.Area.{residents_in, ghosts_in, lookup_in, parts_of, Fit, Became}
 use Rattle.area.specs.Stored.{Stored}
-
--- a side's number is the code's
-pub number_of_lem : (i : ℕ) → i < 2 → number_of (side_of i) ≡ i
-number_of_lem zero h = refl
-number_of_lem (suc zero) h = refl
-number_of_lem (suc (suc n)) h = absurd (let z : ⊥ = omega arith in z)
 
 -- ---- the parts by their names
 pub ghosts_in_lem : (i : Side) (c : ℕ) (w : List ℕ) → ghosts_of i (parts_of c w) ≡ ghosts_in i c w

@@ -3,9 +3,6 @@ use Rattle.store.proofs.Ghosts.{oldest_fits, oldest_takes}
 use Rattle.store.proofs.Laws.{laws}
 use Rattle.store.proofs.drop_oldest.Goals as goal
 
-pub oldest-g-requires : goal.oldest-g-requires
-oldest-g-requires c = search laws
-
 pub forget-requires : goal.forget-requires
 forget-requires c = oldest_fits _ _ _ _ c.requires c.oldest-g.ensures
 

@@ -7,10 +7,10 @@ pub find-place-requires : goal.find-place-requires
 find-place-requires c = search laws
 
 pub add_end-e-requires : goal.add_end-e-requires
-add_end-e-requires c = enter_adds _ _ _ _ _ c.requires.0 c.requires.1
+add_end-e-requires c = rw c.number-l.ensures (enter_adds _ _ _ _ c.requires)
 
 pub put-requires : goal.put-requires
-put-requires c = enter_puts _ _ _ _ _ c.requires.0 c.requires.1 _ c.find-place.ensures _ _ _ c.add_end-e.ensures
+put-requires c = enter_puts _ _ c.args.j _ c.requires _ c.find-place.ensures _ _ _ c.add_end-e.ensures
 
 pub returns : goal.returns
-returns c = enter_end_left _ _ _ _ _ c.requires.0 c.requires.1 _ c.find-place.ensures _ _ _ c.ranges.f.fits c.add_end-e.ensures _ c.put.ensures
+returns c = enter_end_left _ _ _ _ c.requires _ c.find-place.ensures _ _ _ c.ranges.f.fits _ (rw c.number-l.ensures at c.add_end-e.ensures) _ c.put.ensures

@@ -1,14 +1,8 @@
 -- `store::exchange_end` meets its contract. Assumes nothing.
 use Rattle.residents.specs.Changes.{added_end}
-use Rattle.store.proofs.Exchanging.{exchange_any, exchange_slot, exchange_renames, exchange_finds, exchange_slots, exchange_puts, exchange_end_left}
+use Rattle.store.proofs.Exchanging.{exchange_renames, exchange_finds, exchange_slots, exchange_puts, exchange_end_left}
 use Rattle.store.proofs.Laws.{laws}
 use Rattle.store.proofs.exchange_end.Goals as goal
-
-pub name-out-requires : goal.name-out-requires
-name-out-requires c = search exchange_slot
-
-pub make_place-z-requires : goal.make_place-z-requires
-make_place-z-requires c = search exchange_any
 
 pub rename-requires : goal.rename-requires
 rename-requires c = search exchange_renames
@@ -17,10 +11,10 @@ pub find-place-requires : goal.find-place-requires
 find-place-requires c = search exchange_finds
 
 pub exchange_end-requires : goal.exchange_end-requires
-exchange_end-requires c = exchange_slots _ _ _ _ _ _ _ c.requires _ _ c.make_place-z.ensures _ c.rename.ensures
+exchange_end-requires c = rw c.number-l.ensures (exchange_slots _ _ _ _ _ c.requires _ _ c.make_place-z.ensures _ c.rename.ensures _)
 
 pub put-requires : goal.put-requires
-put-requires c = exchange_puts _ _ _ _ _ _ _ c.requires _ _ c.make_place-z.ensures _ c.rename.ensures _ c.find-place.ensures _ (added_end _ _ _ _) c.exchange_end.ensures
+put-requires c = exchange_puts _ _ _ _ _ c.requires _ _ c.make_place-z.ensures _ c.rename.ensures _ c.find-place.ensures _ (added_end _ _ _ _) c.exchange_end.ensures
 
 pub returns : goal.returns
-returns c = record { left = search exchange_end_left; out = search laws }
+returns c = record { left = exchange_end_left _ _ _ _ _ c.requires _ _ c.make_place-z.ensures _ c.rename.ensures _ _ c.ranges.f.fits _ _ c.find-place.ensures _ (rw c.number-l.ensures at c.exchange_end.ensures) _ c.put.ensures; out = search laws }

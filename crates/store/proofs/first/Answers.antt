@@ -1,9 +1,6 @@
 -- `store::first` meets its contract. Assumes nothing.
-use Rattle.store.proofs.Laws.{laws}
+use Rattle.store.proofs.Ends.{first_is}
 use Rattle.store.proofs.first.Goals as goal
 
-pub first-requires : goal.first-requires
-first-requires c = search laws
-
 pub returns : goal.returns
-returns c = search laws
+returns c = first_is _ _ _ _ c.requires (rw c.number-l.ensures at c.first.ensures)

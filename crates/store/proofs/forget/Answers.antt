@@ -4,7 +4,7 @@ use Rattle.store.proofs.Laws.{laws}
 use Rattle.store.proofs.forget.Goals as goal
 
 pub forget-requires : goal.forget-requires
-forget-requires c = forget_fits _ _ _ _ _ c.requires.0 c.requires.1
+forget-requires c = forget_fits _ _ _ _ _ c.requires
 
 pub ghost_place-y-requires : goal.ghost_place-y-requires
 ghost_place-y-requires c = search laws

@@ -1,9 +1,6 @@
 -- `store::last` meets its contract. Assumes nothing.
-use Rattle.store.proofs.Laws.{laws}
+use Rattle.store.proofs.Ends.{last_is}
 use Rattle.store.proofs.last.Goals as goal
 
-pub last-requires : goal.last-requires
-last-requires c = search laws
-
 pub returns : goal.returns
-returns c = search laws
+returns c = last_is _ _ _ _ c.requires (rw c.number-l.ensures at c.last.ensures)

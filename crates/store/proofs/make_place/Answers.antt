@@ -2,9 +2,6 @@
 use Rattle.store.proofs.Placing.{place_asks, place_laws}
 use Rattle.store.proofs.make_place.Goals as goal
 
-pub count-n-requires : goal.count-n-requires
-count-n-requires c = search place_laws
-
 pub record-g-requires : goal.record-g-requires
 record-g-requires c = search place_laws
 

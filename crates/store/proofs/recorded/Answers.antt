@@ -2,8 +2,5 @@
 use Rattle.store.proofs.Laws.{laws}
 use Rattle.store.proofs.recorded.Goals as goal
 
-pub count-requires : goal.count-requires
-count-requires c = search laws
-
 pub returns : goal.returns
 returns c = search laws

@@ -2,8 +2,5 @@
 use Rattle.store.proofs.Laws.{laws}
 use Rattle.store.proofs.set_target.Goals as goal
 
-pub set_target-requires : goal.set_target-requires
-set_target-requires c = search laws
-
 pub returns : goal.returns
 returns c = search laws

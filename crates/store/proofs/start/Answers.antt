@@ -1,9 +1,6 @@
 -- `store::start` meets its contract. Assumes nothing.
-use Rattle.store.proofs.Laws.{laws}
+use Rattle.store.proofs.Order.{start_is}
 use Rattle.store.proofs.start.Goals as goal
 
-pub first-requires : goal.first-requires
-first-requires c = search laws
-
 pub returns : goal.returns
-returns c = search laws
+returns c = start_is _ _ c.requires _ _ (rw c.number-l.ensures at c.first.ensures)

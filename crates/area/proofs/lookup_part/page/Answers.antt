@@ -1,36 +1,9 @@
-use Rattle.area.specs.Part.{part, splice}
-use Rattle.area.specs.Area.{lookup_in}
-use Rattle.area.proofs.Laws.{laws}
+use Rattle.area.proofs.Laws.{lookup_cut, length_lookup}
+use Rattle.std.proofs.Common.{arith}
 use Rattle.area.proofs.lookup_part.page.Goals as goal
 
-pub overflow_mul-a : goal.overflow_mul-a
-overflow_mul-a c = search laws
-
-pub overflow_add-a : goal.overflow_add-a
-overflow_add-a c = search laws
-
-pub overflow_mul-b : goal.overflow_mul-b
-overflow_mul-b c = search laws
-
-pub overflow_add-b : goal.overflow_add-b
-overflow_add-b c = search laws
-
-pub offset_bounds-area-a : goal.offset_bounds-area-a
-offset_bounds-area-a c = search laws
-
-pub slice_bounds-page_of-count : goal.slice_bounds-page_of-count
-slice_bounds-page_of-count c = search laws
-
-pub slice_bounds-page_of-start : goal.slice_bounds-page_of-start
-slice_bounds-page_of-start c = search laws
-
-pub slice_bounds-page_of-end : goal.slice_bounds-page_of-end
-slice_bounds-page_of-end c = search laws
-
 pub page_of-requires : goal.page_of-requires
-unfolding lookup_in part
-page_of-requires c = search laws
+page_of-requires c = let n = length_lookup c.args.c c.args.area.now c.requires.size in rw (lookup_cut _ _ _ c.words.ensures) (omega arith)
 
 pub returns : goal.returns
-unfolding lookup_in part splice
-returns c = c.page_of.ensures
+returns c = rw (lookup_cut _ _ _ c.words.ensures) at c.page_of.ensures

@@ -1,39 +1,8 @@
-use Rattle.area.specs.Part.{part, splice}
-use Rattle.area.specs.Area.{lookup_in}
-use Rattle.area.proofs.Laws.{laws, lookup_written}
+use Rattle.area.proofs.Laws.{laws, lookup_cut, lookup_put}
 use Rattle.area.proofs.lookup_part.take.Goals as goal
 
-pub overflow_mul-a : goal.overflow_mul-a
-overflow_mul-a c = search laws
-
-pub overflow_add-a : goal.overflow_add-a
-overflow_add-a c = search laws
-
-pub overflow_mul-b : goal.overflow_mul-b
-overflow_mul-b c = search laws
-
-pub overflow_add-b : goal.overflow_add-b
-overflow_add-b c = search laws
-
-pub overflow_mul-m : goal.overflow_mul-m
-overflow_mul-m c = search laws
-
-pub offset_bounds-area-a : goal.offset_bounds-area-a
-offset_bounds-area-a c = search laws
-
-pub slice_bounds-take-count : goal.slice_bounds-take-count
-slice_bounds-take-count c = search laws
-
-pub slice_bounds-take-start : goal.slice_bounds-take-start
-slice_bounds-take-start c = search laws
-
-pub slice_bounds-take-end : goal.slice_bounds-take-end
-slice_bounds-take-end c = search laws
-
 pub take-requires : goal.take-requires
-unfolding lookup_in part
-take-requires c = search laws
+take-requires c = rw (lookup_cut _ _ _ c.words.ensures) c.requires.can
 
 pub returns : goal.returns
-unfolding lookup_in part splice
-returns c = lookup_written _ _ _ _ (search laws) (search laws) c.take.ensures
+returns c = lookup_put _ _ _ _ c.requires.size (search laws) c.words.ensures _ (rw (lookup_cut _ _ _ c.words.ensures) at c.take.ensures)
