@@ -1,58 +1,16 @@
-// What the calls on a cache answer, the same for both policies: one enum for each kind of answer. `specs/Answers` gives
-// the rules' number and values for each case. `Refused` is refusal 3: the area is not well formed for the policy. An
-// inner call never gives it.
+// What the calls on a cache answer, the same for both policies. A page that may be absent is an `Option` of its frame,
+// and a public call, which may refuse its area, answers a `Result` with the refusal. What is left for a type of its own
+// is here. `specs/Answers` gives the rules' number and values for each case.
 #![tactic(auto)]
 
 ghost use Rattle.std.specs.Prelude.{◌≡◌};
+ghost use Rattle.rules.specs.Calls.{ghost as ghost_of};
 ghost use Rattle.answers.specs.Answers.{place_is, place_of_list};
 
-// `get`: the frame, or a miss.
-#[derive(Clone, Copy)]
-pub enum Got {
-    Hit(u32),
-    Miss,
-    Refused,
-}
-
-// `peek`: the frame, or nothing.
-#[derive(Clone, Copy)]
-pub enum Seen {
-    See(u32),
-    No,
-    Refused,
-}
-
-// `contains`: whether the page is resident.
-#[derive(Clone, Copy)]
-pub enum Held {
-    Holds(bool),
-    Refused,
-}
-
-// `remove`: the frame of the page that left, or nothing.
-#[derive(Clone, Copy)]
-pub enum Gone {
-    Frame(u32),
-    Absent,
-    Refused,
-}
-
-// `clear`.
-#[derive(Clone, Copy)]
-pub enum Cleared {
-    Cleared,
-    Refused,
-}
-
-// `len`, `capacity`, `p_value` and the lengths of the lists.
-#[derive(Clone, Copy)]
-pub enum Counted {
-    Number(u64),
-    Refused,
-}
+use rules::Side;
 
 // The ghost list that a victim is recorded in: B1 for one of T1, B2 for one of T2.
-#[derive(Clone, Copy)]
+#[derive(Clone, Copy, PartialEq, Eq)]
 pub enum Place {
     B1,
     B2,
@@ -71,20 +29,30 @@ pub enum Inserted {
     },
     Old(u32),
     None,
-    Refused,
 }
 
-// What an operation of a trace answers.
+// What an operation of a trace answers: `get` and `peek` the frame of the page, where it is resident, and `remove` that of the page that left.
 #[derive(Clone, Copy)]
 pub enum Reply {
-    Got(Got),
+    Got(Option<u32>),
     Inserted(Inserted),
-    Gone(Gone),
+    Gone(Option<u32>),
     Cleared,
-    Seen(Seen),
+    Seen(Option<u32>),
 }
 
-// The ghost list of the victims of a list: 0 for T1, 1 for T2.
+// The ghost list of the victims of a side.
+pub fn recorded_for(side: Side) -> Place
+    ensures { place_is result ≡ ghost_of side }
+{
+    match side {
+        Side::First => Place::B1,
+        Side::Second => Place::B2,
+    }
+}
+
+// The same by the number of a list, 0 for T1 and any other for T2. It takes every number, as before, where a side would
+// ask more of its caller.
 pub fn recorded_in(list: usize) -> Place
     ensures { place_is result ≡ place_of_list list }
 {

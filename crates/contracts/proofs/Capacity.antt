@@ -6,7 +6,8 @@ use mathlib.Core.Option.{Option, some, none}
 use Prim.Native.Nat.{ℕ, zero, suc, ◌+◌, ◌*◌}
 use lib.Dec.{leb, eqb}
 use lib.ListN.{length}
-use Rattle.rules.specs.State.{Side, list, full, in_all, resident}
+use Rattle.rules.specs.State.{list, full, in_all, resident}
+use Rattle.rules.specs.declared.Side.{Side}
 use Rattle.rules.specs.Calls.{Call, Get, Insert, Remove, Clear, Ask, Place, ghost, nowhere, Replaced, replace_if}
 use Rattle.rules.specs.Stages.{place_of, ghost_hit, is_b2, turn}
 use Rattle.rules.specs.Lists.{last}

@@ -1,6 +1,6 @@
 -- ANY TWO OUTCOMES THAT A CONTRACT ALLOWS ARE EQUAL: the code's own answers, what the areas read as, their lengths, the
 -- words past the need of the cache, and after a refusal all words. Once over a map f from the code's answers to the
--- rules' that is one to one: `made_is` here, the others in crate answers, proofs/OneToOne. Assumes nothing.
+-- rules' that is one to one: crate answers, proofs/OneToOne. Assumes nothing.
 use mathlib.Core.Path.{◌≡◌, sym, ap, ◌∙◌}
 use mathlib.Core.List.{List}
 use mathlib.Core.Option.{none}
@@ -8,17 +8,9 @@ use Prim.Native.Nat.{ℕ}
 use Rattle.rules.specs.Calls.{Call, Question, Answer, Made}
 use Rattle.rules.specs.Public.{words_needed}
 use Rattle.area.specs.Area.{capacity_of}
-use Rattle.empty_cache.specs.declared.Made as declared
-use Rattle.empty_cache.specs.declared.Made.TheVariants as made
 use Rattle.contracts.specs.Policy.{Policy, reads}
-use Rattle.contracts.specs.Outer.{Outcome, Told, Making, made_is}
+use Rattle.contracts.specs.Outer.{Outcome, Told, Making}
 use Rattle.contracts.specs.Equal.{Same}
-
-pub made_one : (a b : declared.Made) → made_is a ≡ made_is b → a ≡ b
-made_one made.Made made.Made q = cc
-made_one made.Made (made.Refused n) q = cc
-made_one (made.Refused m) made.Made q = cc
-made_one (made.Refused m) (made.Refused n) q = cc
 
 module _ (P : Policy) {A : Type 0} (f : A → Answer) (one : (a b : A) → f a ≡ f b → a ≡ b) where
   pub outcomes_equal : (k : Call) (w u v : List ℕ) (a b : A) → Outcome P k w u (f a) → Outcome P k w v (f b)

@@ -14,12 +14,14 @@ use Rattle.rules.specs.Car.{new}
 use Rattle.rules.specs.Public.{words_needed, made, called}
 use Rattle.area.specs.Stored.{Writes}
 use Rattle.empty_cache.specs.Fresh.{answer_of, Leaves, Empty, New}
-use Rattle.empty_cache.specs.declared.Made as declared
-use Rattle.empty_cache.specs.declared.Made.TheVariants as made
+use Rattle.std.specs.Prelude.{⊤, Result, Ok, Err}
+use Rattle.refusals.specs.declared.Refusal.{Refusal}
+use Rattle.refusals.specs.declared.Refusal.TheVariants as refusals
+use Rattle.answers.specs.Answers.{told as told_as, made_is}
 use Rattle.state_check.specs.Check.{state_test}
 use Rattle.contracts.specs.Policy.{Policy, reads}
 use Rattle.contracts.specs.Inner.{Good, Did, Says}
-use Rattle.contracts.specs.Outer.{Outcome, Told, Making, made_is}
+use Rattle.contracts.specs.Outer.{Outcome, Told, Making}
 use Rattle.contracts.proofs.Exact.{Exact}
 use Rattle.contracts.proofs.Reading.{reads_none, reads_good}
 
@@ -62,21 +64,21 @@ module _ (P : Policy) where
   kept : (c n : ℕ) (w v : List ℕ) → made P.new c (length w) (reads P w) ≡ done (Refused n) (reads P w) → v ≡ w → Making P c w v (Refused n)
   kept c n w v q e = record { is = rw (q, e) refl; size = ap length e; rest = ap (drop (words_needed c)) e; refused = λ _. e }
 
-  pub making : Exact P → (c : ℕ) (w v : List ℕ) (r : declared.Made) → New P.kind c w v r → Making P c w v (made_is r)
+  pub making : Exact P → (c : ℕ) (w v : List ℕ) (r : Result ⊤ Refusal) → New P.kind c w v r → Making P c w v (told_as made_is r)
   unfolding made answer_of
   making e c w v r n = by (ltb max_capacity c) (ltb (length w) (words_needed c)) refl refl
     where
-      by : (x y : Bool) → ltb max_capacity c ≡ x → ltb (length w) (words_needed c) ≡ y → Making P c w v (made_is r)
+      by : (x y : Bool) → ltb max_capacity c ≡ x → ltb (length w) (words_needed c) ≡ y → Making P c w v (told_as made_is r)
       by true y p q =
-          let b : r ≡ made.Refused 1 = n.answer ∙ rw p refl in
-          let l : Leaves (made.Refused 1) P.kind c w v = rw b at n.area in
+          let b : r ≡ Err refusals.Capacity = n.answer ∙ rw p refl in
+          let l : Leaves (Err refusals.Capacity) P.kind c w v = rw b at n.area in
           rw b (kept c 1 w v (rw p refl) l)
       by false true p q =
-          let b : r ≡ made.Refused 2 = n.answer ∙ rw (p, q) refl in
-          let l : Leaves (made.Refused 2) P.kind c w v = rw b at n.area in
+          let b : r ≡ Err refusals.Area = n.answer ∙ rw (p, q) refl in
+          let l : Leaves (Err refusals.Area) P.kind c w v = rw b at n.area in
           rw b (kept c 2 w v (rw (p, q) refl) l)
       by false false p q =
-          let b : r ≡ made.Made = n.answer ∙ rw (p, q) refl in
+          let b : r ≡ Ok tt = n.answer ∙ rw (p, q) refl in
           let l : Empty P.kind c w v = rw b at n.area in
           let s = fresh_reads e c v (ltb-false max_capacity c p) l.writes in
           rw b (record { is = rw (s, p, q) refl; size = l.size; rest = l.rest; refused = λ z. absurd (z refl) })

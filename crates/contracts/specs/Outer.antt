@@ -5,8 +5,6 @@ use Rattle.rules.specs.Calls as rules
 use Rattle.rules.specs.Calls.{Call, Question, Ask, Answer, done}
 use Rattle.rules.specs.Public.{words_needed, made, called}
 use Rattle.area.specs.Area.{capacity_of}
-use Rattle.empty_cache.specs.declared.Made as declared
-use Rattle.empty_cache.specs.declared.Made.TheVariants.{Made, Refused}
 use Rattle.contracts.specs.Policy.{Policy, reads}
 
 module _ (P : Policy) where
@@ -28,8 +26,3 @@ module _ (P : Policy) where
     pub size : length v ≡ length w
     pub rest : drop (words_needed c) v ≡ drop (words_needed c) w
     pub refused : (a ≡ rules.Made → ⊥) → v ≡ w
-
--- The rules' number for each case of what `new` answers
-abbrev pub made_is : declared.Made → Answer
-made_is Made = rules.Made
-made_is (Refused n) = rules.Refused n

@@ -12,7 +12,8 @@ use Rattle.area.specs.Stored.{state_in}
 use Rattle.state_check.specs.Check.{state_test}
 use Rattle.state_check.proofs.State.{state_writes}
 use Rattle.opening.specs.Opening.{Opens}
-use Rattle.opening.specs.declared.Opened.TheVariants.{Cache, Refused}
+use Rattle.std.specs.Prelude.{Ok, Err}
+use Rattle.refusals.specs.declared.Refusal.TheVariants.{State}
 
 -- the test b of the words w, by the number n, which is the kind's
 module _ (kind n : ℕ) (w : List ℕ) (b : Bool) (e : n ≡ kind) (is : b ≡ state_test n w) where
@@ -21,10 +22,10 @@ module _ (kind n : ℕ) (w : List ℕ) (b : Bool) (e : n ≡ kind) (is : b ≡ s
   unfolding state_in parts.state_of
   has_header i h q = let s : end_at (capacity_of w) ≤ length w = (state_writes n w (sym is ∙ q)).stored.size in omega arith
 
-  pub opens : b ≡ true → ((i : ℕ) → get_or w i 0 < 2 ^ 64) → Opens kind w (Cache (get_or w 1 0))
+  pub opens : b ≡ true → ((i : ℕ) → get_or w i 0 < 2 ^ 64) → Opens kind w (Ok (get_or w 1 0))
   opens q words = record { test = rw (sym e) (sym is ∙ q); words = words; capacity = refl }
 
-  pub refuses : b ≡ false → Opens kind w Refused
-  refuses q = rw (sym e) (sym is ∙ q)
+  pub refuses : b ≡ false → Opens kind w (Err State)
+  refuses q = (refl, rw (sym e) (sym is ∙ q))
 
 pub ruleset laws = (has_header, opens, refuses, rules)

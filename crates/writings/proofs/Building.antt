@@ -10,7 +10,9 @@ use native.Mathlib.Omega.{arith}
 use lib.ListN.{length}
 use lib.Seq.{take_all}
 use Rattle.rules.specs.Lists.{Each}
-use Rattle.rules.specs.State.{Lists, Side, first, second, list, ghosts, set_list, set_ghosts, seen, Ranged, Fits, IsPage}
+use Rattle.rules.specs.State.{Lists, list, ghosts, set_list, set_ghosts, seen, Ranged, Fits, IsPage}
+use Rattle.rules.specs.declared.Side.{Side}
+use Rattle.rules.specs.declared.Side.TheVariants.{First as first, Second as second}
 use Rattle.rules.specs.Stages.{emptied}
 use Rattle.rules.specs.Car.{Car, car, Clocked, Resident, WellFormed}
 use Rattle.rules.proofs.ListLaws.{eqb_self, one_self}

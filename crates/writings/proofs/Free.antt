@@ -11,7 +11,8 @@ use lib.Dec.{ltb}
 use lib.ListN.{length}
 use borrow.Author.Tests.{ne_eqb}
 use Rattle.rules.specs.Lists.{one, times, count_from}
-use Rattle.rules.specs.State.{entry, Lists, first, pages, without}
+use Rattle.rules.specs.State.{entry, Lists, pages, without}
+use Rattle.rules.specs.declared.Side.TheVariants.{First as first}
 use Rattle.rules.specs.Stages.{start_target, emptied}
 use Rattle.rules.specs.Car.{Car, car, Clocked, clocked, Resident, slots, new, Obeys}
 use Rattle.rules.proofs.ListLaws.{one_self, one_other, one_le}

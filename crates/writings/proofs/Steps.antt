@@ -9,7 +9,9 @@ use native.Mathlib.Omega.{arith}
 use lib.Dec.{eqb}
 use lib.ListN.{length, replicate}
 use Rattle.rules.specs.Lists.{one, times}
-use Rattle.rules.specs.State.{Side, first, second, pages, seen, IsPage, IsFrame}
+use Rattle.rules.specs.State.{pages, seen, IsPage, IsFrame}
+use Rattle.rules.specs.declared.Side.{Side}
+use Rattle.rules.specs.declared.Side.TheVariants.{First as first, Second as second}
 use Rattle.rules.specs.Car.{Car, slots, new}
 use Rattle.rings.specs.Members.{Mem}
 use Rattle.rings.proofs.Members.{same_or_other}
