@@ -8,7 +8,9 @@ use Prim.Native.Nat.{ℕ}
 use lib.Dec.{eqb}
 use lib.ListN.{length-map}
 use Rattle.rules.specs.Lists.{last}
-use Rattle.rules.specs.State.{Entry, pages, found, without, Side, first, second, list, resident, residents, leaves, seen, full, Sound}
+use Rattle.rules.specs.State.{Entry, pages, found, without, list, resident, residents, leaves, seen, full, Sound}
+use Rattle.rules.specs.declared.Side.{Side}
+use Rattle.rules.specs.declared.Side.TheVariants.{First as first, Second as second}
 use Rattle.rules.specs.Calls.{Question, Peek, Contains, Len, Capacity, Target, T1Len, T2Len, B1Len, B2Len, Listing, ghost, seen_frame, is_there, Holds, asked}
 use Rattle.rules.specs.Ghosts.{record_in, drop_oldest}
 use Rattle.rules.specs.Stages.{ghost_hit, turn}

@@ -6,17 +6,17 @@ use Prim.Native.Nat.{ℕ, ◌+◌, ◌*◌, ◌^◌, ◌<◌, ◌≤◌}
 use native.Mathlib.Omega.{arith}
 use lib.Dec.{leb}
 use lib.ListN.{length, length-map}
-use borrow.Author.Rules.{rules}
 use borrow.Author.Tests.{le-leb, lt-leb}
 use Rattle.rules.specs.Lists.{drop_last}
-use Rattle.rules.specs.State.{Side, first, second, ghosts, residents, in_all}
+use Rattle.rules.specs.State.{ghosts, residents, in_all}
+use Rattle.rules.specs.declared.Side.{Side}
+use Rattle.rules.specs.declared.Side.TheVariants.{First as first, Second as second}
 use Rattle.rules.specs.Ghosts.{drop_oldest}
 use Rattle.rules.specs.Arc.{trim_by, trimmed}
 use Rattle.rules.specs.Car.{Car}
 use Rattle.area_state.specs.Parts.{state_of}
-use Rattle.area.specs.Area.{side_of}
 use Rattle.area.specs.Stored.{Stored, state_in, Left, plainly, arc_of}
-use Rattle.store.specs.Store.{HasOldest, dropped_at}
+use Rattle.store.specs.Store.{dropped_at}
 use Rattle.contracts.specs.Policy.{arc_policy}
 use Rattle.stages.specs.Stages.{Stage}
 use Rattle.stages.proofs.Finding.{state_c, obeys}
@@ -54,19 +54,13 @@ module _ (c : ℕ) (w : List ℕ) (s : Stored c w) where
     unfolding arc_of
     total_is u z = rw (p, q, z, length-map (state_in c w).lists.T1 plainly, length-map (state_in c w).lists.T2 plainly) refl
 
-  pub twice_fits : 2 * c < 2 ^ 64
-  twice_fits = omega (arith, s.holds.small)
-
   -- ---- the oldest of a ghost list
-  module _ (i : ℕ) (b : i < 2) (n : ℕ) (q : n ≡ length (ghosts (side_of i) (state_in c w).lists)) where
-    pub has_oldest : (n ≡ 0 → ⊥) → HasOldest c w i
-    has_oldest z = record { stored = s; side = b; some = omega arith }
+  module _ (i : Side) (n : ℕ) (q : n ≡ length (ghosts i (state_in c w).lists)) where
+    pub lru_none : n ≡ 0 → Stage arc_policy c w w (drop_oldest i (arc_in c w))
+    lru_none z = stays arc_policy c w (drop_oldest i (arc_in c w)) s (none_dropped i (state_in c w) (sym q ∙ z))
 
-    pub lru_none : n ≡ 0 → Stage arc_policy c w w (drop_oldest (side_of i) (arc_in c w))
-    lru_none z = stays arc_policy c w (drop_oldest (side_of i) (arc_in c w)) s (none_dropped (side_of i) (state_in c w) (sym q ∙ z))
-
-  pub lru_gone : (i : ℕ) (v : List ℕ) → Left c w v (dropped_at (side_of i) (state_in c w)) → Stage arc_policy c w v (drop_oldest (side_of i) (arc_in c w))
-  lru_gone i v l = staged arc_policy c w v (dropped_at (side_of i) (state_in c w)) (drop_oldest (side_of i) (arc_in c w)) l (dropped_plainly (side_of i) (state_in c w))
+  pub lru_gone : (i : Side) (v : List ℕ) → Left c w v (dropped_at i (state_in c w)) → Stage arc_policy c w v (drop_oldest i (arc_in c w))
+  lru_gone i v l = staged arc_policy c w v (dropped_at i (state_in c w)) (drop_oldest i (arc_in c w)) l (dropped_plainly i (state_in c w))
 
   -- ---- the trim
   arc_capacity : (arc_in c w).c ≡ c
@@ -90,5 +84,3 @@ module _ (c : ℕ) (w : List ℕ) (s : Stored c w) where
       pub trim_none : m < 2 * c → Stage arc_policy c w w (trimmed (arc_in c w))
       unfolding trim_by
       trim_none h = stays arc_policy c w (trimmed (arc_in c w)) s (sym (trim_is false false (lt-leb c n k) (lt-leb (2 * c) (in_all (arc_in c w)) (rw q at h))))
-
-pub ruleset trim_laws = (l1_fits, l1_is, total_fits_1, total_fits, total_is, twice_fits, has_oldest, lru_none, lru_gone, trim_row, trim_all, trim_none, rules)

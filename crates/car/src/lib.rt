@@ -8,6 +8,7 @@ ghost use Rattle.stages.specs.Common.{HasResident};
 ghost use Rattle.stages.specs.Stages.{Chooses};
 ghost use Rattle.car.specs.Replace.{StepIs};
 
+use rules::Side;
 use stages::Victim;
 
 // Steps until one meets the victim. Each step before clears a bit, and so there is an end.
@@ -17,27 +18,16 @@ pub fn sweep(area: &mut [u64], c: usize, in_b2: bool) -> Victim
 {
     let mut steps: u64 = 1;
     loop {
-        let s = step(area, c, in_b2);
-        match s {
-            Stepped::Passed => {
-                steps += 1;
-            }
-            Stepped::Meets(list, slot) => {
-                return Victim { list, slot, steps };
-            }
+        if let Some((side, slot)) = step(area, c, in_b2) {
+            return Victim { side, slot, steps };
         }
+        steps += 1;
     }
 }
 
-// What one step of a replacement does: the page at the hand is passed over, or it is the victim; then its clock and its slot.
-#[derive(Clone, Copy)]
-enum Stepped {
-    Passed,
-    Meets(usize, usize),
-}
-
-// One step: a referenced page loses its bit and goes to the end of the frequent clock; another is the victim.
-fn step(area: &mut [u64], c: usize, in_b2: bool) -> Stepped
+// One step: a referenced page at the hand loses its bit and goes to the end of the frequent clock; another is the victim,
+// with its side and its slot.
+fn step(area: &mut [u64], c: usize, in_b2: bool) -> Option<(Side, usize)>
     requires { HasResident c area.old }
     ensures { StepIs c area.old area.new in_b2 result }
 {
@@ -45,7 +35,7 @@ fn step(area: &mut [u64], c: usize, in_b2: bool) -> Stepped
     let e = store::first(area, c, i);
     if store::referenced(area, c, e) {
         store::to_end(area, c, e);
-        return Stepped::Passed;
+        return None;
     }
-    Stepped::Meets(i, e)
+    Some((i, e))
 }

@@ -1,21 +1,20 @@
 -- The calls that only read, by the kind. In order: a page; the numbers. Assumes nothing.
 use mathlib.Core.Path.{◌≡◌, refl, sym, ◌∙◌}
-use mathlib.Core.Bool.{true, false}
+use mathlib.Core.Bool.{Bool}
 use mathlib.Core.List.{List}
 use Prim.Native.Nat.{ℕ}
 use lib.ListN.{length}
 use Rattle.rules.specs.State.{list, ghosts, residents}
+use Rattle.rules.specs.declared.Side.TheVariants.{First as first, Second as second}
 use Rattle.rules.specs.Calls.{Question, Peek, Contains, Len, Capacity, Target, T1Len, T2Len, B1Len, B2Len, Answer, Holds, Number, asked}
 use Rattle.area_state.specs.States.{resident_at}
-use Rattle.area.specs.Area.{side_of, target_of}
+use Rattle.area.specs.Area.{target_of}
 use Rattle.area.specs.Stored.{state_in}
 use Rattle.answers.specs.Answers.{seen_is}
-use Rattle.answers.specs.declared.Seen.TheVariants.{See, No}
+use Rattle.std.specs.Prelude.{Option, Some, None, is_some}
 use Rattle.contracts.specs.Inner.{Says}
 use Rattle.stages.specs.Common.{SlotIs}
-use Rattle.stages.specs.declared.Slot.{Slot}
-use Rattle.stages.specs.declared.Slot.TheVariants.{At, Nobody}
-use Rattle.stages.proofs.Finding.{state_c, state_target, arm_at}
+use Rattle.stages.proofs.Finding.{state_c, state_target}
 use Rattle.contracts.specs.Policy.{policy_of}
 use Rattle.rules.specs.declared.Kind.{Kind}
 use Rattle.inner_calls.proofs.Both.{lawful}
@@ -26,21 +25,18 @@ module _ (K : Kind) (c : ℕ) (w : List ℕ) where
 
   -- ---- a page
   module _ (x : ℕ) where
-    pub peek_see : (e f : ℕ) → SlotIs c w x (At e) → f ≡ (resident_at e (state_in c w)).frame → Says (policy_of K) (Peek x) c w (seen_is (See f))
+    pub peek_see : (e f : ℕ) → SlotIs c w x (Some e) → f ≡ (resident_at e (state_in c w)).frame → Says (policy_of K) (Peek x) c w (seen_is (Some f))
     unfolding asked
-    peek_see e f t q = says (Peek x) (seen_is (See f)) (rw (t.1, q) refl)
+    peek_see e f t q = says (Peek x) (seen_is (Some f)) (rw (t.1, q) refl)
 
-    pub peek_no : SlotIs c w x Nobody → Says (policy_of K) (Peek x) c w (seen_is No)
+    pub peek_no : SlotIs c w x None → (r : Option ℕ) → r ≡ None → Says (policy_of K) (Peek x) c w (seen_is r)
     unfolding asked
-    peek_no n = says (Peek x) (seen_is No) (rw n refl)
+    peek_no n r q = rw q (says (Peek x) (seen_is None) (rw n refl))
 
-    pub holds_it : (r : Slot) (e : ℕ) → SlotIs c w x r → r ≡ At e → Says (policy_of K) (Contains x) c w (Holds true)
+    pub holds : (r : Option ℕ) (b : Bool) → SlotIs c w x r → b ≡ is_some r → Says (policy_of K) (Contains x) c w (Holds b)
     unfolding asked
-    holds_it r e t q = says (Contains x) (Holds true) (rw (arm_at c w x r t e q).1 refl)
-
-    pub holds_not : SlotIs c w x Nobody → Says (policy_of K) (Contains x) c w (Holds false)
-    unfolding asked
-    holds_not n = says (Contains x) (Holds false) (rw n refl)
+    holds (Some e) b t q = says (Contains x) (Holds b) (rw (q, t.1) refl)
+    holds None b n q = says (Contains x) (Holds b) (rw (q, n) refl)
 
   -- ---- the numbers
   pub len_says : (n : ℕ) → n ≡ residents (state_in c w).lists → Says (policy_of K) Len c w (Number n)
@@ -55,18 +51,18 @@ module _ (K : Kind) (c : ℕ) (w : List ℕ) where
   unfolding asked
   target_says n q = says Target (Number n) (rw (state_target c w, q) refl)
 
-  pub t1_says : (n : ℕ) → n ≡ length (list (side_of 0) (state_in c w).lists) → Says (policy_of K) T1Len c w (Number n)
+  pub t1_says : (n : ℕ) → n ≡ length (list first (state_in c w).lists) → Says (policy_of K) T1Len c w (Number n)
   unfolding asked
   t1_says n q = says T1Len (Number n) (rw q refl)
 
-  pub t2_says : (n : ℕ) → n ≡ length (list (side_of 1) (state_in c w).lists) → Says (policy_of K) T2Len c w (Number n)
+  pub t2_says : (n : ℕ) → n ≡ length (list second (state_in c w).lists) → Says (policy_of K) T2Len c w (Number n)
   unfolding asked
   t2_says n q = says T2Len (Number n) (rw q refl)
 
-  pub b1_says : (n : ℕ) → n ≡ length (ghosts (side_of 0) (state_in c w).lists) → Says (policy_of K) B1Len c w (Number n)
+  pub b1_says : (n : ℕ) → n ≡ length (ghosts first (state_in c w).lists) → Says (policy_of K) B1Len c w (Number n)
   unfolding asked
   b1_says n q = says B1Len (Number n) (rw q refl)
 
-  pub b2_says : (n : ℕ) → n ≡ length (ghosts (side_of 1) (state_in c w).lists) → Says (policy_of K) B2Len c w (Number n)
+  pub b2_says : (n : ℕ) → n ≡ length (ghosts second (state_in c w).lists) → Says (policy_of K) B2Len c w (Number n)
   unfolding asked
   b2_says n q = says B2Len (Number n) (rw q refl)

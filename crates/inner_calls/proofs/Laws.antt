@@ -4,8 +4,9 @@ use mathlib.Core.Bool.{Bool, true, false}
 use mathlib.Core.List.{List}
 use Prim.Native.Nat.{ℕ, ◌≤◌}
 use native.Mathlib.Omega.{arith}
-use borrow.Author.Rules.{rules}
-use Rattle.rules.specs.State.{Side, seen}
+use Rattle.rules.specs.State.{seen}
+use Rattle.rules.specs.declared.Side.{Side}
+use Rattle.rules.specs.declared.Side.TheVariants.{First as first}
 use Rattle.rules.specs.Calls.{nowhere}
 use Rattle.rules.specs.Arc.{trimmed}
 use Rattle.rules.specs.Arc as arcs
@@ -23,16 +24,10 @@ use Rattle.rules.specs.declared.Kind.TheVariants as kinds
 use Rattle.stages.specs.Stages.{HasRoom, Stage, WayIs, Chooses}
 use Rattle.stages.specs.declared.Victim.{Victim}
 use Rattle.stages.specs.declared.Way.TheVariants.{Comes}
-use Rattle.stages.proofs.Finding.{has_words, arm_at, arm_slot, arm_nobody}
 use Rattle.stages.proofs.Staging.{stays, as_stage}
-use Rattle.stages.proofs.Entering.{can_displaces, b1_cell, b2_cell, room_stored, come_room, room_none, enter_can}
 use Rattle.arc.proofs.Plain.{seen_plainly}
 use Rattle.arc.proofs.Fewer.{trimmed_fewer}
-use Rattle.inner_calls.proofs.Calling.{get_miss, get_hit, remove_absent, remove_gone, insert_nothing, clear_did, good_stored}
-use Rattle.inner_calls.proofs.Asking.{peek_see, peek_no, holds_it, holds_not, len_says, capacity_says, target_says, t1_says, t2_says, b1_says, b2_says}
-use Rattle.inner_calls.proofs.Updating.{update_slot, updates}
-use Rattle.inner_calls.proofs.Replacing.{puts_can, puts}
-use Rattle.inner_calls.proofs.Inserting.{enter_free, enter_full, way_stays, way_b1, way_b2, way_misses, way_slot, way_can, whole_room, whole_comes, whole_stays}
+use Rattle.inner_calls.proofs.Inserting.{way_misses}
 use Rattle.inner_calls.specs.Kinds.{stages_of, trimmed_of}
 
 -- ---- where the rules differ
@@ -79,43 +74,6 @@ ready_is : (K : Kind) (x : ℕ) (s : (policy_of K).State) → trimmed_of K s ≡
 ready_is kinds.Arc x s = refl
 ready_is kinds.Car x s = refl
 
-pub way_comes : (K : Kind) (c : ℕ) (w : List ℕ) (x : ℕ) → HasRoom c w → (r : Found) → FoundIs c w x r → (v : List ℕ) → r ≡ Nowhere → Stage (policy_of K) c w v (trimmed_of K (state_of (policy_of K) c w)) → WayIs (policy_of K) (stages_of K).ready c w v x (Comes 0 false)
+pub way_comes : (K : Kind) (c : ℕ) (w : List ℕ) (x : ℕ) → HasRoom c w → (r : Found) → FoundIs c w x r → (v : List ℕ) → r ≡ Nowhere → Stage (policy_of K) c w v (trimmed_of K (state_of (policy_of K) c w)) → WayIs (policy_of K) (stages_of K).ready c w v x (Comes first false)
 way_comes K c w x s r h v q l =
     way_misses K c w x s r h v q (as_stage (policy_of K) c w v (trimmed_of K (state_of (policy_of K) c w)) ((stages_of K).ready nowhere x (state_of (policy_of K) c w)) l (ready_is K x (state_of (policy_of K) c w))) (fewer K c w v x l)
-
-pub ruleset call_laws = (
-  good_stored,
-  has_words,
-  arm_at,
-  arm_slot,
-  arm_nobody,
-  get_miss,
-  get_hit,
-  remove_absent,
-  remove_gone,
-  clear_did,
-  peek_see,
-  peek_no,
-  holds_it,
-  holds_not,
-  len_says,
-  capacity_says,
-  target_says,
-  t1_says,
-  t2_says,
-  b1_says,
-  b2_says,
-  rules,
-)
-
-pub ruleset own_laws = (touch_arc, touch_car, trim_arc, trim_car, put_arc, put_car, exchange_arc, exchange_car, choose_arc, choose_car, rules)
-
-pub ruleset prepare_laws = (room_stored, b1_cell, b2_cell, way_stays, way_b1, way_b2, way_comes, rules)
-
-pub ruleset enter_laws = (room_stored, come_room, enter_can, room_none, enter_free, enter_full, rules)
-
-pub ruleset replace_laws = (can_displaces, puts_can, puts, rules)
-
-pub ruleset update_laws = (update_slot, updates, rules)
-
-pub ruleset whole_laws = (insert_nothing, whole_room, way_slot, way_can, whole_comes, whole_stays, rules)

@@ -4,14 +4,14 @@ use mathlib.Core.Bool.{Bool, false}
 use mathlib.Core.List.{List}
 use Prim.Native.Nat.{ℕ}
 use native.Mathlib.Omega.{arith}
-use lib.Dec.{eqb}
 use Rattle.rules.specs.State.{seen}
+use Rattle.rules.specs.declared.Side.{Side}
+use Rattle.rules.specs.Calls.{ghost}
 use Rattle.area_state.specs.States.{evicted_at}
-use Rattle.area.specs.Area.{side_of}
 use Rattle.area.specs.Stored.{state_in}
 use Rattle.store.specs.Store.{Evicts, CanExchange}
 use Rattle.store.specs.declared.Out.{Out}
-use Rattle.answers.specs.Answers.{place_is, place_of_list}
+use Rattle.answers.specs.Answers.{place_is}
 use Rattle.answers.specs.declared.Place.{Place}
 use Rattle.answers.specs.declared.Inserted.TheVariants.{Out as InsertedOut}
 use Rattle.stages.specs.Stages.{CanDisplace, entered, Gives, Chosen}
@@ -22,25 +22,23 @@ use Rattle.rules.specs.declared.Kind.{Kind}
 use Rattle.inner_calls.specs.Kinds.{stages_of}
 use Rattle.inner_calls.proofs.Both.{lawful}
 
-module _ (K : Kind) (c : ℕ) (w : List ℕ) (j x : ℕ) (g : CanDisplace c w j x) (v : List ℕ) (hit : Bool) (i e n : ℕ) (h : Chosen (policy_of K) (stages_of K).replace c w v hit i e n) where
-  none_after : seen x (evicted_at (side_of i) e (state_in c v)).lists ≡ 0
-  none_after = omega (arith, (lawful K).frees hit (state_in c w) (evicted_at (side_of i) e (state_in c v)) g.full.some h.state x, g.comes.absent)
+module _ (K : Kind) (c : ℕ) (w : List ℕ) (x : ℕ) (g : CanDisplace c w x) (v : List ℕ) (hit : Bool) (i : Side) (e n : ℕ) (h : Chosen (policy_of K) (stages_of K).replace c w v hit i e n) where
+  none_after : seen x (evicted_at i e (state_in c v)).lists ≡ 0
+  none_after = omega (arith, (lawful K).frees hit (state_in c w) (evicted_at i e (state_in c v)) g.full.some h.state x, g.comes.absent)
 
-  pub puts_can : CanExchange c v i e j x 0
+  pub puts_can : CanExchange c v i e x
   puts_can =
       record {
         slot = h.slot;
-        side = g.comes.side;
-        fresh = absent_resident x (evicted_at (side_of i) e (state_in c v)).lists none_after;
-        unrecorded = absent_place x (evicted_at (side_of i) e (state_in c v)).lists none_after;
-        bit = omega arith;
+        fresh = absent_resident x (evicted_at i e (state_in c v)).lists none_after;
+        unrecorded = absent_place x (evicted_at i e (state_in c v)).lists none_after;
       }
 
-  pub puts : (f : ℕ) (u : List ℕ) (o : Out) → Evicts c v u e o ((stages_of K).put (side_of j) x f (eqb 0 1) (evicted_at (side_of i) e (state_in c v))) → (k : Place) → place_is k ≡ place_of_list i → Gives (policy_of K) (entered ((stages_of K).admitted (side_of j) x f) ((stages_of K).replace hit (state_of (policy_of K) c w))) c w u (InsertedOut o.page o.frame k n)
-  puts f u o d k q =
-      let s = evicted_at (side_of i) e (state_in c v) in
-      let l = then_left c w v u (state_in c v) (λ t. (stages_of K).put (side_of j) x f false (evicted_at (side_of i) e t)) h.left d.left in
+  pub puts : (j : Side) (f : ℕ) (u : List ℕ) (o : Out) → Evicts c v u e o ((stages_of K).put j x f false (evicted_at i e (state_in c v))) → (k : Place) → place_is k ≡ ghost i → Gives (policy_of K) (entered ((stages_of K).admitted j x f) ((stages_of K).replace hit (state_of (policy_of K) c w))) c w u (InsertedOut o.page o.frame k n)
+  puts j f u o d k q =
+      let s = evicted_at i e (state_in c v) in
+      let l = then_left c w v u (state_in c v) (λ t. (stages_of K).put j x f false (evicted_at i e t)) h.left d.left in
       record {
-        left = staged (policy_of K) c w u ((stages_of K).put (side_of j) x f false s) ((stages_of K).admitted (side_of j) x f ((stages_of K).replace hit (state_of (policy_of K) c w)).state) l ((lawful K).puts (side_of j) x f s ∙ ap ((stages_of K).admitted (side_of j) x f) (sym h.state));
+        left = staged (policy_of K) c w u ((stages_of K).put j x f false s) ((stages_of K).admitted j x f ((stages_of K).replace hit (state_of (policy_of K) c w)).state) l ((lawful K).puts j x f s ∙ ap ((stages_of K).admitted j x f) (sym h.state));
         answer = rw (q, d.out.page, d.out.frame, h.victim, h.steps) refl;
       }

@@ -6,7 +6,9 @@ use mathlib.Core.List.{List, [], ◌∷◌, ◌++◌, map-append}
 use Prim.Native.Nat.{ℕ}
 use lib.Dec.{eqb}
 use borrow.Author.Tests.{eqb-false}
-use Rattle.rules.specs.State.{with_frame, changed, Side, first, second, list}
+use Rattle.rules.specs.State.{with_frame, changed, list}
+use Rattle.rules.specs.declared.Side.{Side}
+use Rattle.rules.specs.declared.Side.TheVariants.{First as first, Second as second}
 use Rattle.rules.specs.Calls.{Done, Old}
 use Rattle.rules.specs.Car.{Car, Resident, slots}
 use Rattle.rules.proofs.ListLaws.{changed_keys}
@@ -14,12 +16,12 @@ use Rattle.rings.specs.Members.{Mem}
 use Rattle.residents.specs.Residents.{lists_of}
 use Rattle.area_state.specs.Parts.{number_of}
 use Rattle.area_state.specs.States.{at_slot, resident_at, framed_at}
+use Rattle.area_state.proofs.Sides.{number_below}
 use Rattle.area_state.proofs.Reading.{slots_read, in_both}
 use Rattle.area_state.proofs.Lists.{list_is}
-use Rattle.area.specs.Area.{parts_of, side_of}
+use Rattle.area.specs.Area.{parts_of}
 use Rattle.area.specs.Stored.{state_in, Left}
 use Rattle.store.specs.Store.{IsSlot}
-use Rattle.store.proofs.Steps.{number_of_lem}
 use Rattle.answers.specs.declared.Inserted.TheVariants.{Old as InsertedOld}
 use Rattle.stages.specs.Stages.{Gives}
 use Rattle.stages.proofs.Staging.{then_left, staged}
@@ -69,16 +71,14 @@ module _ (c : ℕ) (w : List ℕ) (e f : ℕ) (t : IsSlot c w e) (v : List ℕ) 
 
   pub update_slot : IsSlot c v e
   update_slot =
-      let q = same_lists (side_of t.number) in
-      let z : lists_of (parts_of c v).residents c t.number ≡ lists_of (parts_of c w).residents c t.number = rw (number_of_lem t.number t.slot.side) at q in
-      record { number = t.number; slot = record { stored = l.stored; side = t.slot.side; member = subst (λ (m : List ℕ). Mem e m) (sym z) t.slot.member } }
+      record { side = t.side; slot = record { stored = l.stored; member = subst (λ (m : List ℕ). Mem e m) (sym (same_lists t.side)) t.slot.member } }
 
 -- ---- the update
 module _ (K : Kind) (c : ℕ) (w : List ℕ) (e f : ℕ) (t : IsSlot c w e) (v : List ℕ) (l : Left c w v (framed_at e f (state_in c w))) where
   among : Mem e (slots ((state_in c w).lists.T1 ++ (state_in c w).lists.T2))
   among =
       rw (map-append (λ (r : Resident). r.more.slot) (state_in c w).lists.T1 (state_in c w).lists.T2, slots_are first c w, slots_are second c w)
-      (in_both (lists_of (parts_of c w).residents c) t.number e t.slot.side t.slot.member)
+      (in_both (lists_of (parts_of c w).residents c) (number_of t.side) e (number_below t.side) t.slot.member)
 
   pub updates : (n : ℕ) → n ≡ (resident_at e (state_in c w)).frame → (u : List ℕ) → Left c v u ((stages_of K).touched e (state_in c v)) → Gives (policy_of K) ((stages_of K).updated e f (state_in c w)) c w u (InsertedOld n)
   updates n q u d =

@@ -1,11 +1,11 @@
-// The inner calls of both policies, by the kind. Each asks that the area holds a well-formed state of the kind's policy, of capacity c, and leaves one. Answer and state are
-// those of the rules, over the operations of `store`. The kind is matched only where the rules differ: what a hit does (`touch`), what comes before a plain miss (`trim`),
-// where a page enters (`put`, `exchange`), and who the victim is (`choose`).
+// The inner calls of both policies, by the kind. Each asks that the area holds a well-formed state of the kind's policy,
+// of capacity c, and leaves one. Answer and state are those of the rules, over the operations of `store`. The kind is
+// matched only where the rules differ: what a hit does (`touch`), what comes before a plain miss (`trim`), where a page
+// enters (`put`, `exchange`), and who the victim is (`choose`).
 #![tactic(auto)]
 
-ghost use Rattle.std.specs.Prelude.{false, ◌<◌};
+ghost use Rattle.std.specs.Prelude.{false};
 ghost use Rattle.rules.specs.Calls.{Get, Insert, Remove, Clear, Cleared, Peek, Contains, Len, Capacity, Target, T1Len, T2Len, B1Len, B2Len, Holds, Number};
-ghost use Rattle.area.specs.Area.{side_of};
 ghost use Rattle.area.specs.Stored.{Stored, state_in, Left};
 ghost use Rattle.area_state.specs.States.{evicted_at};
 ghost use Rattle.store.specs.Store.{IsSlot, CanEnter, CanExchange, Evicts};
@@ -16,40 +16,29 @@ ghost use Rattle.stages.specs.Common.{HasResident};
 ghost use Rattle.stages.specs.Stages.{HasRoom, CanCome, CanDisplace, entered, Stage, Gives, WayIs, Chooses};
 ghost use Rattle.inner_calls.specs.Kinds.{stages_of, trimmed_of};
 
-use answers::{Gone, Got, Inserted, Seen};
-use rules::Kind;
-use stages::{Slot, Victim, Way};
+use answers::Inserted;
+use rules::{Kind, Side};
+use stages::{Victim, Way};
 use store::Found;
 
-// The frame of the page x, or a miss. A hit touches it.
-pub fn get(area: &mut [u64], c: usize, kind: Kind, x: u64) -> Got
+// The frame of the page x, if it is resident. A hit touches it.
+pub fn get(area: &mut [u64], c: usize, kind: Kind, x: u64) -> Option<u32>
     requires { Good (policy_of kind) c area.old }
     ensures { Did (policy_of kind) (Get x) c area.old area.new (got_is result) }
 {
-    let slot = stages::slot_of(area, c, x);
-    match slot {
-        Slot::At(e) => {
-            let f = store::frame(area, c, e);
-            touch(area, c, kind, e);
-            Got::Hit(f)
-        }
-        Slot::Nobody => Got::Miss,
-    }
+    let hit = stages::slot_of(area, c, x)?;
+    let f = store::frame(area, c, hit);
+    touch(area, c, kind, hit);
+    Some(f)
 }
 
-// The frame of the page x; nothing changes.
-pub fn peek(area: &[u64], c: usize, kind: Kind, x: u64) -> Seen
+// The same, and nothing changes.
+pub fn peek(area: &[u64], c: usize, kind: Kind, x: u64) -> Option<u32>
     requires { Good (policy_of kind) c area.now }
     ensures { Says (policy_of kind) (Peek x) c area.now (seen_is result) }
 {
-    let slot = stages::slot_of(area, c, x);
-    match slot {
-        Slot::At(e) => {
-            let f = store::frame(area, c, e);
-            Seen::See(f)
-        }
-        Slot::Nobody => Seen::No,
-    }
+    let seen = stages::slot_of(area, c, x)?;
+    Some(store::frame(area, c, seen))
 }
 
 // Whether the page x is resident; nothing changes.
@@ -57,14 +46,11 @@ pub fn contains(area: &[u64], c: usize, kind: Kind, x: u64) -> bool
     requires { Good (policy_of kind) c area.now }
     ensures { Says (policy_of kind) (Contains x) c area.now (Holds result) }
 {
-    let slot = stages::slot_of(area, c, x);
-    match slot {
-        Slot::At(_) => true,
-        Slot::Nobody => false,
-    }
+    stages::slot_of(area, c, x).is_some()
 }
 
-// The page x with the frame f: not stored where c = 0; updated where it is resident; else stored new. Its stages stand below.
+// The page x with the frame f: not stored where c = 0; updated where it is resident; else stored new. Its stages stand
+// below.
 pub fn insert(area: &mut [u64], c: usize, kind: Kind, x: u64, f: u32) -> Inserted
     requires { Good (policy_of kind) c area.old }
     ensures { Did (policy_of kind) (Insert x f) c area.old area.new (inserted_is result) }
@@ -72,27 +58,21 @@ pub fn insert(area: &mut [u64], c: usize, kind: Kind, x: u64, f: u32) -> Inserte
     if c == 0 {
         return Inserted::None;
     }
-    let way = prepare(area, c, kind, x);
-    match way {
+    match prepare(area, c, kind, x) {
         Way::Stays(e) => update(area, c, kind, e, f),
         Way::Comes(j, in_b2) => enter(area, c, kind, j, x, f, in_b2),
     }
 }
 
-// The page x leaves; ghost lists are unchanged.
-pub fn remove(area: &mut [u64], c: usize, kind: Kind, x: u64) -> Gone
+// The page x leaves, and its frame is told; ghost lists are unchanged.
+pub fn remove(area: &mut [u64], c: usize, kind: Kind, x: u64) -> Option<u32>
     requires { Good (policy_of kind) c area.old }
     ensures { Did (policy_of kind) (Remove x) c area.old area.new (gone_is result) }
 {
-    let slot = stages::slot_of(area, c, x);
-    match slot {
-        Slot::At(e) => {
-            let f = store::frame(area, c, e);
-            store::remove(area, c, e);
-            Gone::Frame(f)
-        }
-        Slot::Nobody => Gone::Absent,
-    }
+    let gone = stages::slot_of(area, c, x)?;
+    let old = store::frame(area, c, gone);
+    store::remove(area, c, gone);
+    Some(old)
 }
 
 // All lists are empty, and the target is c / 2.
@@ -130,28 +110,28 @@ pub fn t1_len(area: &[u64], c: usize, kind: Kind) -> usize
     requires { Good (policy_of kind) c area.now }
     ensures { Says (policy_of kind) T1Len c area.now (Number result) }
 {
-    store::listed(area, c, 0)
+    store::listed(area, c, Side::First)
 }
 
 pub fn t2_len(area: &[u64], c: usize, kind: Kind) -> usize
     requires { Good (policy_of kind) c area.now }
     ensures { Says (policy_of kind) T2Len c area.now (Number result) }
 {
-    store::listed(area, c, 1)
+    store::listed(area, c, Side::Second)
 }
 
 pub fn b1_len(area: &[u64], c: usize, kind: Kind) -> usize
     requires { Good (policy_of kind) c area.now }
     ensures { Says (policy_of kind) B1Len c area.now (Number result) }
 {
-    store::recorded(area, c, 0)
+    store::recorded(area, c, Side::First)
 }
 
 pub fn b2_len(area: &[u64], c: usize, kind: Kind) -> usize
     requires { Good (policy_of kind) c area.now }
     ensures { Says (policy_of kind) B2Len c area.now (Number result) }
 {
-    store::recorded(area, c, 1)
+    store::recorded(area, c, Side::Second)
 }
 
 // ---- the stages of an insert, in the order of RULES 5.3 to 5.8
@@ -171,30 +151,29 @@ fn prepare(area: &mut [u64], c: usize, kind: Kind, x: u64) -> Way
     requires { HasRoom c area.old }
     ensures { WayIs (policy_of kind) (stages_of kind).ready c area.old area.new x result }
 {
-    let found = store::find(area, c, x);
-    match found {
+    match store::find(area, c, x) {
         Found::Resident(e) => Way::Stays(e),
         Found::InB1(g) => {
-            stages::adapt(area, c, 0, g, x);
-            Way::Comes(1, false)
+            stages::adapt(area, c, Side::First, g, x);
+            Way::Comes(Side::Second, false)
         }
         Found::InB2(g) => {
-            stages::adapt(area, c, 1, g, x);
-            Way::Comes(1, true)
+            stages::adapt(area, c, Side::Second, g, x);
+            Way::Comes(Side::Second, true)
         }
         Found::Nowhere => {
             trim(area, c, kind);
-            Way::Comes(0, false)
+            Way::Comes(Side::First, false)
         }
     }
 }
 
-// A page that no list has: replace if full; it enters T1 (j = 0) or T2 (j = 1). It has one caller: called from the ghost
+// A page that no list has: replace if full; it enters the list of side j. It has one caller: called from the ghost
 // hits and the miss each, it stayed a call that saved twelve registers and handed its answer over in memory. With one the
 // compiler takes all of an insert into the batch: 6 to 14 % where pages are evicted (D64).
-fn enter(area: &mut [u64], c: usize, kind: Kind, j: usize, x: u64, f: u32, in_b2: bool) -> Inserted
-    requires { CanCome c area.old j x }
-    ensures { Gives (policy_of kind) (entered ((stages_of kind).admitted (side_of j) x f) ((stages_of kind).made in_b2 (state_of (policy_of kind) c area.old))) c area.old area.new result }
+fn enter(area: &mut [u64], c: usize, kind: Kind, j: Side, x: u64, f: u32, in_b2: bool) -> Inserted
+    requires { CanCome c area.old x }
+    ensures { Gives (policy_of kind) (entered ((stages_of kind).admitted j x f) ((stages_of kind).made in_b2 (state_of (policy_of kind) c area.old))) c area.old area.new result }
 {
     let n = stages::residents(area, c);
     if n < c {
@@ -205,21 +184,13 @@ fn enter(area: &mut [u64], c: usize, kind: Kind, j: usize, x: u64, f: u32, in_b2
 }
 
 // The victim leaves, and is recorded in the ghost list of its side. The page takes its slot.
-fn replace(
-    area: &mut [u64],
-    c: usize,
-    kind: Kind,
-    j: usize,
-    x: u64,
-    f: u32,
-    in_b2: bool,
-) -> Inserted
-    requires { CanDisplace c area.old j x }
-    ensures { Gives (policy_of kind) (entered ((stages_of kind).admitted (side_of j) x f) ((stages_of kind).replace in_b2 (state_of (policy_of kind) c area.old))) c area.old area.new result }
+fn replace(area: &mut [u64], c: usize, kind: Kind, j: Side, x: u64, f: u32, in_b2: bool) -> Inserted
+    requires { CanDisplace c area.old x }
+    ensures { Gives (policy_of kind) (entered ((stages_of kind).admitted j x f) ((stages_of kind).replace in_b2 (state_of (policy_of kind) c area.old))) c area.old area.new result }
 {
     let v = choose(area, c, kind, in_b2);
-    let out = exchange(area, c, kind, v.list, v.slot, j, x, f);
-    let place = answers::recorded_in(v.list);
+    let out = exchange(area, c, kind, v.side, v.slot, j, x, f);
+    let place = answers::recorded_for(v.side);
     Inserted::Out {
         page: out.page,
         frame: out.frame,
@@ -236,7 +207,7 @@ fn touch(area: &mut [u64], c: usize, kind: Kind, e: usize)
 {
     match kind {
         Kind::Arc => store::to_front(area, c, e),
-        Kind::Car => store::set_bit(area, c, e, 1),
+        Kind::Car => store::set_bit(area, c, e, true),
     }
 }
 
@@ -252,13 +223,13 @@ fn trim(area: &mut [u64], c: usize, kind: Kind)
 }
 
 // A page comes into a free slot, its bit clear: at the front of its list, or at the end of its clock.
-fn put(area: &mut [u64], c: usize, kind: Kind, j: usize, x: u64, f: u32)
-    requires { CanEnter c area.old x 0 × (j < 2) }
-    ensures { Left c area.old area.new ((stages_of kind).put (side_of j) x f false (state_in c area.old)) }
+fn put(area: &mut [u64], c: usize, kind: Kind, j: Side, x: u64, f: u32)
+    requires { CanEnter c area.old x }
+    ensures { Left c area.old area.new ((stages_of kind).put j x f false (state_in c area.old)) }
 {
     match kind {
-        Kind::Arc => store::enter_front(area, c, j, x, f, 0),
-        Kind::Car => store::enter_end(area, c, j, x, f, 0),
+        Kind::Arc => store::enter_front(area, c, j, x, f, false),
+        Kind::Car => store::enter_end(area, c, j, x, f, false),
     }
 }
 
@@ -278,17 +249,17 @@ fn exchange(
     area: &mut [u64],
     c: usize,
     kind: Kind,
-    i: usize,
+    i: Side,
     e: usize,
-    j: usize,
+    j: Side,
     x: u64,
     f: u32,
 ) -> store::Out
-    requires { CanExchange c area.old i e j x 0 }
-    ensures { Evicts c area.old area.new e result ((stages_of kind).put (side_of j) x f false (evicted_at (side_of i) e (state_in c area.old))) }
+    requires { CanExchange c area.old i e x }
+    ensures { Evicts c area.old area.new e result ((stages_of kind).put j x f false (evicted_at i e (state_in c area.old))) }
 {
     match kind {
-        Kind::Arc => store::exchange_front(area, c, i, e, j, x, f, 0),
-        Kind::Car => store::exchange_end(area, c, i, e, j, x, f, 0),
+        Kind::Arc => store::exchange_front(area, c, i, e, j, x, f, false),
+        Kind::Car => store::exchange_end(area, c, i, e, j, x, f, false),
     }
 }

@@ -21,25 +21,15 @@ pub fn operate(area: &mut [u64], c: usize, kind: Kind, op: Operation) -> Reply
     ensures { Did (policy_of kind) (call_of op) c area.old area.new (reply_is result) }
 {
     match op {
-        Operation::Get { page } => {
-            let r = inner_calls::get(area, c, kind, page);
-            Reply::Got(r)
-        }
+        Operation::Get { page } => Reply::Got(inner_calls::get(area, c, kind, page)),
         Operation::Insert { page, frame } => {
-            let r = inner_calls::insert(area, c, kind, page, frame);
-            Reply::Inserted(r)
+            Reply::Inserted(inner_calls::insert(area, c, kind, page, frame))
         }
-        Operation::Remove { page } => {
-            let r = inner_calls::remove(area, c, kind, page);
-            Reply::Gone(r)
-        }
+        Operation::Remove { page } => Reply::Gone(inner_calls::remove(area, c, kind, page)),
         Operation::Clear => {
             inner_calls::clear(area, c, kind);
             Reply::Cleared
         }
-        Operation::Peek { page } => {
-            let r = inner_calls::peek(area, c, kind, page);
-            Reply::Seen(r)
-        }
+        Operation::Peek { page } => Reply::Seen(inner_calls::peek(area, c, kind, page)),
     }
 }

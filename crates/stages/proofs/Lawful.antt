@@ -3,7 +3,8 @@ use mathlib.Core.Path.{◌≡◌}
 use mathlib.Core.Bool.{Bool, false}
 use mathlib.Core.Option.{some, none}
 use Prim.Native.Nat.{ℕ, ◌<◌, ◌≤◌}
-use Rattle.rules.specs.State.{with_frame, Side, residents, resident, seen, full}
+use Rattle.rules.specs.State.{with_frame, residents, resident, seen, full}
+use Rattle.rules.specs.declared.Side.{Side}
 use Rattle.rules.specs.Calls.{Call, Get, Insert, Remove, Clear, Ask, Question, Place, ghost, InRange, Hit, Miss, None, Old, Gone, Absent, Cleared, done, asked, replace_if}
 use Rattle.rules.specs.Stages.{place_of, goes_to}
 use Rattle.rules.specs.Car.{Car, new}

@@ -5,4 +5,3 @@ pub mod Hitting
 pub mod Staging
 pub mod Lawful
 pub mod Entering
-pub mod Laws

@@ -1,12 +1,13 @@
 -- What the stages of an insert ask and leave, over the policy. Assumes nothing.
 use Rattle.std.specs.Prelude.{◌≡◌, Bool, false, List, ℕ, ◌<◌, length, drop}
 use Rattle.std.proofs.Math.Option.{none}
-use Rattle.rules.specs.State.{Side, resident, seen}
+use Rattle.rules.specs.State.{resident, seen}
+use Rattle.rules.specs.declared.Side.{Side}
 use Rattle.rules.specs.Calls.{Place, New, ghost, nowhere, Victim, out, Replaced, steps, Done, done}
 use Rattle.rules.specs.Stages.{place_of, is_b2, goes_to}
 use Rattle.rules.specs.Car.{Car}
 use Rattle.area_state.specs.States.{resident_at, evicted_at}
-use Rattle.area.specs.Area.{kind_of, end_at, side_of}
+use Rattle.area.specs.Area.{kind_of, end_at}
 use Rattle.area.specs.Stored.{Stored, state_in, Left}
 use Rattle.store.specs.Store.{HasSlot, HasGhost, FoundIs}
 use Rattle.store.specs.declared.Found.TheVariants.{Resident}
@@ -24,10 +25,9 @@ pub record HasRoom (c : ℕ) (w : List ℕ) : Type 0 where
   pub stored : Stored c w
   pub some : 0 < c
 
--- a page that no list has may come, to T1 (j = 0) or T2 (j = 1)
-pub record CanCome (c : ℕ) (w : List ℕ) (j x : ℕ) : Type 0 where
+-- a page that no list has may come, to T1 or T2
+pub record CanCome (c : ℕ) (w : List ℕ) (x : ℕ) : Type 0 where
   pub can : HasRoom c w
-  pub side : j < 2
   pub absent : seen x (state_in c w).lists ≡ 0
 
 -- a page that is in the place p, and no resident's, may come
@@ -37,14 +37,13 @@ pub record Comes (c : ℕ) (w : List ℕ) (p : Place) (x : ℕ) : Type 0 where
   pub place : place_of x (state_in c w).lists ≡ p
 
 -- a ghost hit: cell g of the ghost list of side i holds the page
-pub record Hits (c : ℕ) (w : List ℕ) (i g x : ℕ) : Type 0 where
-  pub side : i < 2
-  pub cell : HasGhost c w (side_of i) g x
-  pub comes : Comes c w (ghost (side_of i)) x
+pub record Hits (c : ℕ) (w : List ℕ) (i : Side) (g x : ℕ) : Type 0 where
+  pub cell : HasGhost c w i g x
+  pub comes : Comes c w (ghost i) x
 
 -- a page takes the slot of one that is put out
-pub record CanDisplace (c : ℕ) (w : List ℕ) (j x : ℕ) : Type 0 where
-  pub comes : CanCome c w j x
+pub record CanDisplace (c : ℕ) (w : List ℕ) (x : ℕ) : Type 0 where
+  pub comes : CanCome c w x
   pub full : HasResident c w
 
 -- whether a page's place is B2
@@ -56,9 +55,9 @@ of_b2 nowhere = false
 abbrev pub entered : {S : Type 0} → (S → S) → Replaced S → Done S
 entered put m = done (New m.victim (steps m)) (put m.state)
 
--- the resident of slot e of list i as a victim
-abbrev pub out_of : ℕ → ℕ → Car → Victim
-out_of i e s = out (resident_at e s).page (resident_at e s).frame (ghost (side_of i))
+-- the resident of slot e of the list of side i as a victim
+abbrev pub out_of : Side → ℕ → Car → Victim
+out_of i e s = out (resident_at e s).page (resident_at e s).frame (ghost i)
 
 -- ---- what a policy does, in stages
 pub record Stages (P : Policy) : Type 0 where
@@ -86,27 +85,27 @@ module _ (P : Policy) where
     pub left : Stage c w v d.state
     pub answer : inserted_is r ≡ d.answer
 
-  -- ---- how an insert goes on: the page comes from its place to list j, after a hit in B2 or not; `ready` is what comes before
+  -- ---- how an insert goes on: the page comes from its place to the list of side j, after a hit in B2 or not; `ready` is what comes before
   module _ (ready : Place → ℕ → P.State → P.State) where
-    pub record Ready (c : ℕ) (w v : List ℕ) (x j : ℕ) (hit : Bool) : Type 0 where
+    pub record Ready (c : ℕ) (w v : List ℕ) (x : ℕ) (j : Side) (hit : Bool) : Type 0 where
       pub place : Place
       pub was : Comes c w place x
-      pub list : side_of j ≡ goes_to place
+      pub list : j ≡ goes_to place
       pub frequent : hit ≡ of_b2 place
       pub left : Stage c w v (ready place x (state_of P c w))
-      pub can : CanCome c v j x
+      pub can : CanCome c v x
 
     abbrev pub WayIs : ℕ → List ℕ → List ℕ → ℕ → way.Way → Type 0
     WayIs c w v x (ways.Stays e) = (v ≡ w) × FoundIs c w x (Resident e)
     WayIs c w v x (ways.Comes j hit) = Ready c w v x j hit
 
-  -- ---- a whole replacement but for the putting out: v is the area after its n steps, and slot e of list i has the victim
-  pub record Chosen (replace : Bool → P.State → Replaced P.State) (c : ℕ) (w v : List ℕ) (hit : Bool) (i e n : ℕ) : Type 0 where
+  -- ---- a whole replacement but for the putting out: v is the area after its n steps, and slot e of the list of side i has the victim
+  pub record Chosen (replace : Bool → P.State → Replaced P.State) (c : ℕ) (w v : List ℕ) (hit : Bool) (i : Side) (e n : ℕ) : Type 0 where
     pub left : Left c w v (state_in c v)
     pub slot : HasSlot c v i e
     pub victim : (replace hit (state_of P c w)).victim ≡ out_of i e (state_in c v)
-    pub state : (replace hit (state_of P c w)).state ≡ P.view (evicted_at (side_of i) e (state_in c v))
+    pub state : (replace hit (state_of P c w)).state ≡ P.view (evicted_at i e (state_in c v))
     pub steps : steps (replace hit (state_of P c w)) ≡ n
 
   abbrev pub Chooses : (replace : Bool → P.State → Replaced P.State) → ℕ → List ℕ → List ℕ → Bool → victim.Victim → Type 0
-  Chooses replace c w v hit r = Chosen replace c w v hit r.list r.slot r.steps
+  Chooses replace c w v hit r = Chosen replace c w v hit r.side r.slot r.steps

@@ -4,8 +4,8 @@ use Rattle.area.specs.Stored.{state_in}
 use Rattle.car.proofs.Replacing.{Sweeps}
 use Rattle.car.proofs.sweep.Given as goal
 
-abbrev pub invariant-loop-steps : goal.invariant-loop-steps
-invariant-loop-steps l = Sweeps l.c l.initial.area l.area l.in_b2 l.steps
+abbrev pub invariant-loop-side : goal.invariant-loop-side
+invariant-loop-side l = Sweeps l.c l.initial.area l.area l.in_b2 l.steps
 
-abbrev pub decreases-loop-steps : goal.decreases-loop-steps
-decreases-loop-steps l = referenced (state_in l.c l.area).lists
+abbrev pub decreases-loop-side : goal.decreases-loop-side
+decreases-loop-side l = referenced (state_in l.c l.area).lists

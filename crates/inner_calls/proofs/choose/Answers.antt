@@ -1,15 +1,9 @@
--- `inner_calls::choose` meets its contract: the kind says which policy. Assumes nothing.
-use Rattle.inner_calls.proofs.Laws.{own_laws}
+-- `inner_calls::choose` meets its contract. Assumes nothing.
+use Rattle.inner_calls.proofs.Laws.{choose_arc, choose_car}
 use Rattle.inner_calls.proofs.choose.Goals as goal
 
-pub oldest-requires : goal.oldest-requires
-oldest-requires c = search own_laws
-
-pub sweep-requires : goal.sweep-requires
-sweep-requires c = search own_laws
-
 pub returns-in-Arc : goal.returns-in-Arc
-returns-in-Arc c = search own_laws
+returns-in-Arc c = search choose_arc
 
 pub returns-in-Car : goal.returns-in-Car
-returns-in-Car c = search own_laws
+returns-in-Car c = search choose_car

@@ -1,18 +1,9 @@
 -- `inner_calls::get` meets its contract. Assumes nothing.
-use Rattle.inner_calls.proofs.Laws.{call_laws}
+use Rattle.inner_calls.proofs.Calling.{get_miss, get_hit}
 use Rattle.inner_calls.proofs.get.Goals as goal
 
-pub slot_of-slot-requires : goal.slot_of-slot-requires
-slot_of-slot-requires c = search call_laws
+pub returns-in_err-hit : goal.returns-in_err-hit
+returns-in_err-hit c = search (get_miss, c.in_err-hit.ensures)
 
-pub frame-f-requires : goal.frame-f-requires
-frame-f-requires c = search call_laws
-
-pub touch-requires : goal.touch-requires
-touch-requires c = search call_laws
-
-pub returns-in-At : goal.returns-in-At
-returns-in-At c = search call_laws
-
-pub returns-in-Nobody : goal.returns-in-Nobody
-returns-in-Nobody c = search call_laws
+pub returns : goal.returns
+returns c = search (get_hit, c.in_ok-hit.ensures)

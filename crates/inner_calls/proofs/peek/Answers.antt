@@ -1,15 +1,9 @@
 -- `inner_calls::peek` meets its contract. Assumes nothing.
-use Rattle.inner_calls.proofs.Laws.{call_laws}
+use Rattle.inner_calls.proofs.Asking.{peek_see, peek_no}
 use Rattle.inner_calls.proofs.peek.Goals as goal
 
-pub slot_of-slot-requires : goal.slot_of-slot-requires
-slot_of-slot-requires c = search call_laws
+pub returns-in_err-seen : goal.returns-in_err-seen
+returns-in_err-seen c = search (peek_no, c.in_err-seen.ensures)
 
-pub frame-f-requires : goal.frame-f-requires
-frame-f-requires c = search call_laws
-
-pub returns-in-At : goal.returns-in-At
-returns-in-At c = search call_laws
-
-pub returns-in-Nobody : goal.returns-in-Nobody
-returns-in-Nobody c = search call_laws
+pub returns : goal.returns
+returns c = search (peek_see, c.in_ok-seen.ensures)

@@ -1,15 +1,15 @@
--- `public_calls::b2_len` meets its contract: at each need in the order of the code. Assumes nothing.
-use Rattle.public_calls.proofs.Laws.{laws}
+-- `public_calls::b2_len` meets its contract. Assumes nothing.
+use Rattle.answers.specs.Answers.{counted_is}
+use Rattle.contracts.proofs.Exact.{exact_of}
+use Rattle.opening.proofs.Public.{opened_good, opened_told}
+use Rattle.public_calls.proofs.Laws.{refuses_told}
 use Rattle.public_calls.proofs.b2_len.Goals as goal
 
-pub open-requires : goal.open-requires
-open-requires c = search laws
-
 pub b2_len-requires : goal.b2_len-requires
-b2_len-requires c = search laws
+b2_len-requires c = search (opened_good, exact_of, c.in_ok-c.was)
 
-pub returns-in-Cache : goal.returns-in-Cache
-returns-in-Cache c = search laws
+pub returns-in_err-c : goal.returns-in_err-c
+returns-in_err-c c = refuses_told counted_is _ _ _ c.open.ensures _ c.in_err-c.was _ c.from_residual.ensures.1 _
 
-pub returns-in-Refused : goal.returns-in-Refused
-returns-in-Refused c = search laws
+pub returns : goal.returns
+returns c = search (opened_told, exact_of, c.in_ok-c.was)
