@@ -5,13 +5,10 @@ ghost use Rattle.std.specs.Prelude.{◌≡◌};
 ghost use Rattle.rules.specs.Calls.{Get};
 ghost use Rattle.contracts.specs.Policy.{arc_policy};
 ghost use Rattle.contracts.specs.Outer.{Outcome};
-ghost use Rattle.empty_cache.specs.Fresh.{New};
 ghost use Rattle.state_check.specs.Check.{state_test};
-ghost use Rattle.bench_calls.specs.Numbers.{passed, made_at, got_at};
+ghost use Rattle.bench_calls.specs.Numbers.{passed, NewAt, got_at};
 
-use answers::Got;
 use arc_core::ArcCore;
-use empty_cache::Made;
 
 // 1 where the words are a writing of a well-formed state of that kind, and else 0.
 #[unsafe(no_mangle)]
@@ -27,11 +24,11 @@ pub extern "C" fn timed_check(area: &[u64], kind: u64) -> u64
 // 0 where an empty cache is made, and else the number of the refusal, which leaves the words as they were.
 #[unsafe(no_mangle)]
 pub extern "C" fn timed_new(area: &mut [u64], kind: u64, c: u64) -> u64
-    ensures { New kind c area.old area.new (made_at result) }
+    ensures { NewAt kind c area.old area.new result }
 {
     match empty_cache::new(area, kind, c) {
-        Made::Made => 0,
-        Made::Refused(n) => n as u64,
+        Ok(()) => 0,
+        Err(refusal) => refusal.number() as u64,
     }
 }
 
@@ -41,8 +38,8 @@ pub extern "C" fn timed_get(area: &mut [u64], page: u64) -> u64
     ensures { Outcome arc_policy (Get page) area.old area.new (got_at result) }
 {
     match ArcCore::get(area, page) {
-        Got::Hit(f) => f as u64,
-        Got::Miss => 4294967296,
-        Got::Refused => 4294967299,
+        Ok(Some(f)) => f as u64,
+        Ok(None) => 4294967296,
+        Err(refusal) => 4294967296 + refusal.number() as u64,
     }
 }

@@ -2,17 +2,11 @@
 use Rattle.bench_calls.proofs.Laws.{laws}
 use Rattle.bench_calls.proofs.timed_get.Goals as goal
 
-pub get-requires : goal.get-requires
-get-requires c = search laws
+pub returns-in-Ok-Some : goal.returns-in-Ok-Some
+returns-in-Ok-Some c = search laws
 
-pub overflow_cast-result : goal.overflow_cast-result
-overflow_cast-result c = search laws
+pub returns-in-Ok-None : goal.returns-in-Ok-None
+returns-in-Ok-None c = search laws
 
-pub returns-in-Hit : goal.returns-in-Hit
-returns-in-Hit c = search laws
-
-pub returns-in-Miss : goal.returns-in-Miss
-returns-in-Miss c = search laws
-
-pub returns-in-Refused : goal.returns-in-Refused
-returns-in-Refused c = search laws
+pub returns-in-Err : goal.returns-in-Err
+returns-in-Err c = search laws
