@@ -4,6 +4,8 @@ use mathlib.Core.Path.{◌≡◌, refl, sym, ap, ◌∙◌}
 use mathlib.Core.List.{List}
 use mathlib.Core.Option.{none}
 use Prim.Native.Nat.{ℕ}
+use Rattle.std.specs.Prelude.{Result, Ok, Err}
+use Rattle.refusals.proofs.OneToOne.{number_one}
 use Rattle.rules.specs.Counts as counting
 use Rattle.rules.specs.Public.{words_needed, BatchDone}
 use Rattle.area.specs.Area.{capacity_of}
@@ -11,8 +13,8 @@ use Rattle.contracts.specs.Policy.{Policy, reads}
 use Rattle.contracts.specs.Equal.{Same}
 use Rattle.batch.specs.Outcomes.{counts_is, ran_is, BatchOutcome}
 use Rattle.batch.specs.declared.Counts.{Counts}
-use Rattle.batch.specs.declared.Ran.{Ran}
-use Rattle.batch.specs.declared.Ran.TheVariants as ran
+use Rattle.batch.specs.declared.Stopped.{Stopped}
+use Rattle.batch.specs.declared.Stopped.TheVariants.{Trace, State}
 
 pub counts_one : (m n : Counts) → counts_is m ≡ counts_is n → m ≡ n
 counts_one m n q =
@@ -25,22 +27,22 @@ counts_one m n q =
     let g : m.removals ≡ n.removals = ap (λ (x : counting.Counts). x.removals) q in
     rw (a, b, c, d, e, f, g) refl
 
-pub ran_one : (a b : Ran) → ran_is a ≡ ran_is b → a ≡ b
-ran_one (ran.Done n) (ran.Done m) q = cc
-ran_one (ran.Done n) (ran.Stopped r o) q = cc
-ran_one (ran.Done n) ran.Refused q = cc
-ran_one (ran.Stopped r o) (ran.Done n) q = cc
-ran_one (ran.Stopped r o) (ran.Stopped s p) q = cc
-ran_one (ran.Stopped r o) ran.Refused q = cc
-ran_one ran.Refused (ran.Done n) q = cc
-ran_one ran.Refused (ran.Stopped r o) q = cc
-ran_one ran.Refused ran.Refused q = cc
+pub ran_one : (a b : Result ℕ Stopped) → ran_is a ≡ ran_is b → a ≡ b
+ran_one (Ok n) (Ok m) q = cc
+ran_one (Ok n) (Err (Trace r o)) q = cc
+ran_one (Ok n) (Err State) q = cc
+ran_one (Err (Trace r o)) (Ok m) q = cc
+ran_one (Err (Trace r o)) (Err (Trace s p)) q = let e : r ≡ s = number_one r s cc in cc
+ran_one (Err (Trace r o)) (Err State) q = cc
+ran_one (Err State) (Ok m) q = cc
+ran_one (Err State) (Err (Trace s p)) q = cc
+ran_one (Err State) (Err State) q = cc
 
 -- of two outcomes: the answers a and b with the counts m and n, and the areas u and v
-pub batches_equal : (P : Policy) (trace : List ℕ) (lent : Counts) (w u v : List ℕ) (a b : Ran) (m n : Counts)
+pub batches_equal : (P : Policy) (trace : List ℕ) (lent : Counts) (w u v : List ℕ) (a b : Result ℕ Stopped) (m n : Counts)
     → BatchOutcome P trace lent w u (ran_is a) m
     → BatchOutcome P trace lent w v (ran_is b) n
-    → Same P {A = Ran × Counts} (words_needed (capacity_of w)) (reads P w ≡ none) u v (a, m) (b, n)
+    → Same P {A = Result ℕ Stopped × Counts} (words_needed (capacity_of w)) (reads P w ≡ none) u v (a, m) (b, n)
 batches_equal P trace lent w u v a b m n x y =
     let q = x.is ∙ sym y.is in
     let r = ran_one a b (ap (λ (d : BatchDone P.State). d.answer) q) in

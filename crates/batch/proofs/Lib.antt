@@ -1,5 +1,4 @@
 -- The laws of a batch. Assumes nothing.
-pub mod Counting
 pub mod Paying
 pub mod Refusing
 pub mod ByRules

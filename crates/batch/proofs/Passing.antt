@@ -4,6 +4,8 @@ use mathlib.Core.List.{List}
 use Prim.Native.Nat.{ℕ}
 use native.Mathlib.Omega.{arith}
 use borrow.Author.Rules.{rules}
+use Rattle.std.specs.Prelude.{Result, Ok, Err}
+use Rattle.refusals.specs.declared.Refusal.{Refusal}
 use Rattle.rules.specs.Public.{batched}
 use Rattle.contracts.specs.Policy.{Policy, policy_of}
 use Rattle.contracts.specs.Inner.{Good}
@@ -11,12 +13,10 @@ use Rattle.rules.specs.declared.Kind.{Kind}
 use Rattle.contracts.proofs.Exact.{Exact, exact_of}
 use Rattle.contracts.proofs.Reading.{reads_none, reads_good}
 use Rattle.opening.specs.Opening.{Opens}
-use Rattle.opening.specs.declared.Opened.{Opened}
-use Rattle.opening.specs.declared.Opened.TheVariants.{Cache, Refused}
 use Rattle.opening.proofs.Public.{opens_as, opened_good}
 use Rattle.batch.specs.Outcomes.{ran_is, Finishes, BatchOutcome}
 use Rattle.batch.specs.declared.Counts.{Counts}
-use Rattle.batch.specs.declared.Ran.TheVariants as ran
+use Rattle.batch.specs.declared.Stopped.TheVariants.{State}
 use Rattle.batch.specs.declared.Tally.{Tally}
 
 -- ---- the outcome of a trace that was run
@@ -33,20 +33,21 @@ ran_is_lem P e c trace lent w v r g d =
     }
 
 -- what `open` tells of the words w
-module _ (k : Kind) (o : Opened) (w : List ℕ) (h : Opens (policy_of k).kind w o) where
-  pub opened : (c : ℕ) → o ≡ Cache c → Good (policy_of k) c w
+module _ (k : Kind) (o : Result ℕ Refusal) (w : List ℕ) (h : Opens (policy_of k).kind w o) where
+  pub opened : (c : ℕ) → o ≡ Ok c → Good (policy_of k) c w
   opened c q = opened_good (policy_of k) o w h (exact_of k) c q
 
   -- the trace was run
-  pub ran_through : (c : ℕ) → o ≡ Cache c → (trace : List ℕ) (lent : Counts) (v : List ℕ) (r : Tally) → Finishes (policy_of k) c trace w v r
+  pub ran_through : (c : ℕ) → o ≡ Ok c → (trace : List ℕ) (lent : Counts) (v : List ℕ) (r : Tally) → Finishes (policy_of k) c trace w v r
       → BatchOutcome (policy_of k) trace lent w v (ran_is r.ran) r.counts
   ran_through c q trace lent v r d = ran_is_lem (policy_of k) (exact_of k) c trace lent w v r (opened c q) d
 
   -- refusal 3
-  pub refused : o ≡ Refused → (trace : List ℕ) (lent : Counts) → BatchOutcome (policy_of k) trace lent w w (ran_is ran.Refused) lent
+  pub refused : (e : Refusal) → o ≡ Err e → (trace : List ℕ) (lent : Counts)
+      → BatchOutcome (policy_of k) trace lent w w (ran_is (Err State)) lent
   unfolding batched
-  refused q trace lent =
-      let z = reads_none (policy_of k) w (opens_as (policy_of k) o w h Refused q) in
+  refused e q trace lent =
+      let z = reads_none (policy_of k) w (opens_as (policy_of k) o w h (Err e) q).1 in
       record { is = rw z refl; size = refl; rest = refl; refused = λ _. refl }
 
 pub ruleset laws = (opened, ran_through, refused, rules)

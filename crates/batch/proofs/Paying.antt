@@ -6,7 +6,8 @@ use Prim.Native.Nat.{ℕ, ◌+◌, ◌≤◌}
 use native.Mathlib.Omega.{arith}
 use lib.Dec.{eqb, ltb}
 use Rattle.rules.specs.Lists.{last}
-use Rattle.rules.specs.State.{Side, list, residents, resident, full, max_capacity}
+use Rattle.rules.specs.State.{list, residents, resident, full, max_capacity}
+use Rattle.rules.specs.declared.Side.{Side}
 use Rattle.rules.specs.Calls.{Call, Get, Insert, Remove, Clear, Ask, Question, Peek, Contains, Len, Capacity, Target, T1Len, T2Len, B1Len, B2Len, Listing, Place, ghost, nowhere, Victim, nobody, out, Answer, Hit, Miss, New, Old, None, Gone, Absent, Cleared, See, No, Holds, Number, Made, Finished, Stopped, Refused, Done, done, seen_frame, asked, steps, replace_if}
 use Rattle.rules.specs.Stages.{place_of, ghost_hit, is_b2, turn}
 use Rattle.rules.specs.Counts.{Counts, counted, outs, hits}

@@ -1,20 +1,23 @@
 -- The loop of a batch, in the shapes of the code: what was done so far, with the run of the rest, is the batch of the whole trace; and no count grows past 64 bits.
 -- Assumes nothing.
-use mathlib.Core.Path.{◌≡◌, refl, sym, subst, ap, ◌∙◌}
-use mathlib.Core.Bool.{cond}
-use mathlib.Core.List.{List, [], ◌∷◌, map}
+use mathlib.Core.Path.{◌≡◌, refl, sym, ap, ◌∙◌}
+use mathlib.Core.Bool.{false, cond}
+use mathlib.Core.List.{List, [], map}
 use Prim.Native.Nat.{ℕ, ◌+◌, ◌-◌, ◌^◌, ◌<◌, ◌≤◌}
 use native.Mathlib.Omega.{arith}
 use lib.Dec.{eqb}
 use lib.ListN.{length, drop}
 use borrow.Author.Rules.{rules}
-use borrow.Author.Tests.{ne_eqb}
-use Rattle.trace.specs.Reading.{Parsed, whole, refused, operation_of, Reading, reading, reading_of}
-use Rattle.trace.specs.Steps.{stepped, step_at}
+use Rattle.std.specs.Prelude.{Option, Some, None, Ok, Err}
+use Rattle.refusals.specs.declared.Refusal.{Refusal}
+use Rattle.refusals.specs.declared.Refusal.TheVariants as refusals
+use Rattle.refusals.specs.Refusals.{number_of}
+use Rattle.trace.specs.Reading.{stop_number, Reading, reading, reading_of}
+use Rattle.trace.specs.Steps.{step_at}
 use Rattle.trace.specs.declared.Operation.{Operation}
 use Rattle.trace.specs.declared.Found.TheVariants.{Read, End, Refused}
 use Rattle.trace.specs.declared.Step.{Step}
-use Rattle.trace.proofs.Laws.{numbered, added}
+use Rattle.trace.proofs.Laws.{added}
 use Rattle.trace.proofs.Arms.{part}
 use Rattle.trace.proofs.Turns.{from, turn}
 use Rattle.rules.specs.Calls.{Call, Answer, Finished, Stopped, Done, run}
@@ -30,7 +33,7 @@ use Rattle.contracts.specs.Inner.{Good, Did}
 use Rattle.rules.specs.declared.Kind.{Kind}
 use Rattle.batch.specs.Outcomes.{counts_is, ran_is, Fits, Finishes}
 use Rattle.batch.specs.declared.Counts.{Counts}
-use Rattle.batch.specs.declared.Ran.TheVariants as ran
+use Rattle.batch.specs.declared.Stopped.TheVariants as stop
 use Rattle.batch.specs.declared.Tally.{Tally}
 use Rattle.batch.proofs.Paying.{AtMostOne, at_most_one, marks_of, pays, few_marked}
 
@@ -51,16 +54,20 @@ none_plus a = same_counts (omega arith) (omega arith) (omega arith) (omega arith
 -- ---- a batch as the reading of its trace, without its answers: after n operations that counted m
 pub record Sum (S : Type 0) : Type 0 where
   pub done : ℕ
-  pub refusal : ℕ
+  pub refusal : Option Refusal
   pub offset : ℕ
   pub state : S
   pub counts : counting.Counts
 
+-- what is told of it, with its refusal and that one's offset
+abbrev stops : ℕ → Option Refusal → ℕ → Answer
+stops n r o = cond (eqb (stop_number r) 0) (Finished n) (Stopped (stop_number r) o)
+
 module _ {S : Type 0} where
-  abbrev sum : ℕ → ℕ → ℕ → S → counting.Counts → Sum S
+  abbrev sum : ℕ → Option Refusal → ℕ → S → counting.Counts → Sum S
   sum n r o s m = record { done = n; refusal = r; offset = o; state = s; counts = m }
 
-  same_sum : {n n2 r o : ℕ} {s : S} {m m2 : counting.Counts} → n ≡ n2 → m ≡ m2 → sum n r o s m ≡ sum n2 r o s m2
+  same_sum : {n n2 o : ℕ} {r : Option Refusal} {s : S} {m m2 : counting.Counts} → n ≡ n2 → m ≡ m2 → sum n r o s m ≡ sum n2 r o s m2
   same_sum a b = cc
 
   abbrev after : (Call → S → Done S) → ℕ → counting.Counts → Reading → S → Sum S
@@ -78,7 +85,7 @@ module _ {S : Type 0} where
   after_one does n m op r s = same_sum (omega arith) (plus_assoc m _ _)
 
   -- none is left
-  after_none : (does : Call → S → Done S) (n : ℕ) (m : counting.Counts) (refusal offset : ℕ) (s : S) → after does n m (reading [] refusal offset) s ≡ sum n refusal offset s m
+  after_none : (does : Call → S → Done S) (n : ℕ) (m : counting.Counts) (refusal : Option Refusal) (offset : ℕ) (s : S) → after does n m (reading [] refusal offset) s ≡ sum n refusal offset s m
   unfolding run
   after_none does n m refusal offset s = same_sum (omega arith) (plus_none m)
 
@@ -88,12 +95,12 @@ module _ {S : Type 0} where
     pub state : t ≡ (batch does 0 bs s).state
     pub counts : m ≡ (batch does 0 bs s).counts
 
-  ends : (does : Call → S → Done S) (bs : List ℕ) (s : S) (n r o : ℕ) (t : S) (m : counting.Counts) (a : Answer)
-      → sum n r o t m ≡ after does 0 no_counts (reading_of bs) s → a ≡ cond (eqb r 0) (Finished n) (Stopped r o) → Ends does bs s a t m
+  ends : (does : Call → S → Done S) (bs : List ℕ) (s : S) (n : ℕ) (r : Option Refusal) (o : ℕ) (t : S) (m : counting.Counts) (a : Answer)
+      → sum n r o t m ≡ after does 0 no_counts (reading_of bs) s → a ≡ stops n r o → Ends does bs s a t m
   ends does bs s n r o t m a e is =
       let b = batch_runs does 0 0 bs s in
       let d : n ≡ (batch does 0 bs s).done = omega (arith, ap (λ (x : Sum S). x.done) e, b.done) in
-      let f : r ≡ (batch does 0 bs s).refusal = ap (λ (x : Sum S). x.refusal) e ∙ sym b.refusal in
+      let f : stop_number r ≡ (batch does 0 bs s).refusal = ap (λ (x : Sum S). stop_number x.refusal) e ∙ sym b.refusal in
       let g : o ≡ (batch does 0 bs s).offset = ap (λ (x : Sum S). x.offset) e ∙ sym b.offset in
       record {
         answer = is ∙ rw (d, f, g) refl;
@@ -101,15 +108,14 @@ module _ {S : Type 0} where
         counts = ap (λ (x : Sum S). x.counts) e ∙ none_plus _ ∙ sym b.counts;
       }
 
--- ---- a refusal of the cursor has a number
-refused_number : (at r o : ℕ) (s : List ℕ) → (step_at at s).found ≡ Refused r o → 4 ≤ r
-unfolding step_at
-refused_number at r o [] e = let z : ◌≡◌ {A = ℕ} 0 1 = cc in absurd (omega arith)
-refused_number at r o (b ∷ bs) e = by (operation_of b bs) refl e
-  where
-    by : (x : Parsed) → operation_of b bs ≡ x → (stepped at x).found ≡ Refused r o → 4 ≤ r
-    by (whole op used) is e = let z : ◌≡◌ {A = ℕ} 0 1 = cc in absurd (omega arith)
-    by (refused number place) is e = let q : number ≡ r = cc in subst (λ (n : ℕ). 4 ≤ n) q (numbered b bs number place is).0
+-- ---- a refusal has a number
+some_number : (r : Refusal) → eqb (number_of r) 0 ≡ false
+some_number refusals.Capacity = refl
+some_number refusals.Area = refl
+some_number refusals.State = refl
+some_number refusals.Operation = refl
+some_number refusals.Number = refl
+some_number refusals.Room = refl
 
 -- ---- counts m of n operations, where so many pages are marked still
 pub record Bounded (m : counting.Counts) (marked n : ℕ) : Type 0 where
@@ -207,7 +213,7 @@ module _ (k : Kind) (c : ℕ) (s w₀ w : List ℕ) (at n : ℕ) (m : Counts) (i
         omega (arith, h.past, h.inside)
 
     -- where no operation is read
-    finishes : (r o : ℕ) (y : Tally) → from s at ≡ reading [] r o → y.counts ≡ m → ran_is y.ran ≡ cond (eqb r 0) (Finished n) (Stopped r o) → Finishes P c s w₀ w y
+    finishes : (r : Option Refusal) (o : ℕ) (y : Tally) → from s at ≡ reading [] r o → y.counts ≡ m → ran_is y.ran ≡ stops n r o → Finishes P c s w₀ w y
     finishes r o y is q a =
         let z =
         ends P.does s (state_of P c w₀) n r o (state_of P c w) (counts_is m) (ran_is y.ran)
@@ -215,12 +221,10 @@ module _ (k : Kind) (c : ℕ) (s w₀ w : List ℕ) (at n : ℕ) (m : Counts) (i
         a in
         record { answer = z.answer; counts = ap counts_is q ∙ z.counts; state = z.state; good = i.good; size = i.size; rest = i.rest }
 
-    pub at_end_fact : x.found ≡ End → Finishes P c s w₀ w (record { ran = ran.Done n; counts = m })
-    at_end_fact is = finishes 0 at _ (turn s at x e End is).is refl refl
+    pub at_end_fact : x.found ≡ End → Finishes P c s w₀ w (record { ran = Ok n; counts = m })
+    at_end_fact is = finishes None at _ (turn s at x e End is).is refl refl
 
-    pub at_refusal : (r o : ℕ) → x.found ≡ Refused r o → Finishes P c s w₀ w (record { ran = ran.Stopped r o; counts = m })
-    at_refusal r o is =
-        let h = refused_number at r o (part s at) (sym (ap (λ (y : Step). y.found) e) ∙ is) in
-        finishes r o _ (turn s at x e (Refused r o) is).is refl (rw (ne_eqb r 0 (λ q. omega arith)) refl)
+    pub at_refusal : (r : Refusal) (o : ℕ) → x.found ≡ Refused r o → Finishes P c s w₀ w (record { ran = Err (stop.Trace r o); counts = m })
+    at_refusal r o is = finishes (Some r) o _ (turn s at x e (Refused r o) is).is refl (rw (some_number r) refl)
 
 pub ruleset laws = (begins, counts_fit, again, falls, at_end_fact, at_refusal, rules)

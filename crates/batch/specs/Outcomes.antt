@@ -1,6 +1,7 @@
 -- What a batch answers, counts and leaves (RULES 7). Assumes nothing.
-use Rattle.std.specs.Prelude.{◌≡◌, List, ℕ, ◌^◌, ◌<◌, length, drop}
+use Rattle.std.specs.Prelude.{◌≡◌, List, ℕ, ◌^◌, ◌<◌, length, drop, Result, Ok, Err}
 use Rattle.std.proofs.Math.Option.{none}
+use Rattle.refusals.specs.Refusals.{number_of}
 use Rattle.rules.specs.Calls as rules
 use Rattle.rules.specs.Calls.{Answer}
 use Rattle.rules.specs.Counts as counting
@@ -13,18 +14,18 @@ use Rattle.answers.specs.declared.Reply.{Reply}
 use Rattle.contracts.specs.Policy.{Policy, state_of, reads}
 use Rattle.contracts.specs.Inner.{Good}
 use Rattle.batch.specs.declared.Counts.{Counts}
-use Rattle.batch.specs.declared.Ran.{Ran}
-use Rattle.batch.specs.declared.Ran.TheVariants as ran
+use Rattle.batch.specs.declared.Stopped.{Stopped}
+use Rattle.batch.specs.declared.Stopped.TheVariants.{Trace, State}
 use Rattle.batch.specs.declared.Tally.{Tally}
 
 -- ---- the rules' counts, and their number and values for each case of the answer
 abbrev pub counts_is : Counts → counting.Counts
 counts_is n = counting.counts n.gets n.get_hits n.updates n.new_pages n.evictions n.steps n.removals
 
-abbrev pub ran_is : Ran → Answer
-ran_is (ran.Done n) = rules.Finished n
-ran_is (ran.Stopped r o) = rules.Stopped r o
-ran_is ran.Refused = rules.Refused 3
+abbrev pub ran_is : Result ℕ Stopped → Answer
+ran_is (Ok n) = rules.Finished n
+ran_is (Err (Trace r o)) = rules.Stopped (number_of r) o
+ran_is (Err State) = rules.Refused 3
 
 -- ---- one answer more: each count stays a u64
 pub record Small (n : counting.Counts) : Type 0 where

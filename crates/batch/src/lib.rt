@@ -5,19 +5,19 @@
 #![tactic(auto)]
 
 ghost use Rattle.std.specs.Prelude.{◌≡◌};
-ghost use Rattle.rules.specs.Counts.{no_counts, plus, counted};
+ghost use Rattle.rules.specs.Counts.{plus, counted};
 ghost use Rattle.answers.specs.Answers.{reply_is};
 ghost use Rattle.contracts.specs.Policy.{policy_of};
 ghost use Rattle.contracts.specs.Inner.{Good};
 ghost use Rattle.batch.specs.Outcomes.{counts_is, ran_is, Fits, Finishes, BatchOutcome};
 
-use answers::{Gone, Got, Inserted, Reply};
-use opening::Opened;
+use answers::{Inserted, Reply};
+use refusals::Refusal;
 use rules::Kind;
 use trace::{Cursor, Found};
 
 // What a batch did. `removals` are those that found their page.
-#[derive(Clone, Copy)]
+#[derive(Clone, Copy, PartialEq, Eq, Default)]
 pub struct Counts {
     pub gets: u64,
     pub get_hits: u64,
@@ -28,34 +28,19 @@ pub struct Counts {
     pub removals: u64,
 }
 
-// The operations done; the refusal 4 or 5 that stopped it, with the offset of the operation's first byte; refusal 3.
-#[derive(Clone, Copy)]
-pub enum Ran {
-    Done(u64),
-    Stopped { number: u8, offset: u64 },
-    Refused,
+// Why a batch did not run to the end of its trace: refusal 4 or 5, with the offset of the operation's first byte; or
+// refusal 3.
+#[derive(Clone, Copy, PartialEq, Eq)]
+pub enum Stopped {
+    Trace { refusal: Refusal, offset: u64 },
+    State,
 }
 
-// What a batch answers, and its counts.
+// What a batch answers, the operations done or what stopped it, and its counts.
 #[derive(Clone, Copy)]
 pub struct Tally {
-    pub ran: Ran,
+    pub ran: Result<u64, Stopped>,
     pub counts: Counts,
-}
-
-// Nothing was done yet.
-fn none() -> Counts
-    ensures { counts_is result ≡ no_counts }
-{
-    Counts {
-        gets: 0,
-        get_hits: 0,
-        updates: 0,
-        new_pages: 0,
-        evictions: 0,
-        steps: 0,
-        removals: 0,
-    }
 }
 
 // The counts with one more answer.
@@ -64,44 +49,35 @@ fn count(mut n: Counts, reply: Reply) -> Counts
     ensures { counts_is result ≡ plus (counts_is n) (counted (reply_is reply)) }
 {
     match reply {
-        Reply::Got(got) => match got {
-            Got::Hit(_) => {
-                n.gets += 1;
-                n.get_hits += 1;
-                n
-            }
-            Got::Miss => {
-                n.gets += 1;
-                n
-            }
-            Got::Refused => n,
-        },
-        Reply::Inserted(inserted) => match inserted {
-            Inserted::New => {
-                n.new_pages += 1;
-                n
-            }
-            Inserted::Out { steps, .. } => {
-                n.steps += steps;
-                n.new_pages += 1;
-                n.evictions += 1;
-                n
-            }
-            Inserted::Old(_) => {
-                n.updates += 1;
-                n
-            }
-            Inserted::None => n,
-            Inserted::Refused => n,
-        },
-        Reply::Gone(gone) => match gone {
-            Gone::Frame(_) => {
-                n.removals += 1;
-                n
-            }
-            Gone::Absent => n,
-            Gone::Refused => n,
-        },
+        Reply::Got(Some(_)) => {
+            n.gets += 1;
+            n.get_hits += 1;
+            n
+        }
+        Reply::Got(None) => {
+            n.gets += 1;
+            n
+        }
+        Reply::Inserted(Inserted::New) => {
+            n.new_pages += 1;
+            n
+        }
+        Reply::Inserted(Inserted::Out { steps, .. }) => {
+            n.steps += steps;
+            n.new_pages += 1;
+            n.evictions += 1;
+            n
+        }
+        Reply::Inserted(Inserted::Old(_)) => {
+            n.updates += 1;
+            n
+        }
+        Reply::Inserted(Inserted::None) => n,
+        Reply::Gone(Some(_)) => {
+            n.removals += 1;
+            n
+        }
+        Reply::Gone(None) => n,
         Reply::Cleared => n,
         Reply::Seen(_) => n,
     }
@@ -114,7 +90,7 @@ pub fn run(area: &mut [u64], c: usize, kind: Kind, trace: &[u8]) -> Tally
 {
     let mut cursor = Cursor::new();
     let mut done: u64 = 0;
-    let mut counts = none();
+    let mut counts = Counts::default();
     loop {
         let at = cursor.at;
         let step = cursor.next(&trace[at..]);
@@ -128,16 +104,16 @@ pub fn run(area: &mut [u64], c: usize, kind: Kind, trace: &[u8]) -> Tally
             }
             Found::End => {
                 return Tally {
-                    ran: Ran::Done(done),
+                    ran: Ok(done),
                     counts,
                 };
             }
-            Found::Refused { number, offset } => {
+            Found::Refused { refusal, offset } => {
                 return Tally {
-                    ran: Ran::Stopped {
-                        number,
+                    ran: Err(Stopped::Trace {
+                        refusal,
                         offset: offset as u64,
-                    },
+                    }),
                     counts,
                 };
             }
@@ -150,16 +126,21 @@ pub fn tally_up(area: &mut [u64], kind: Kind, trace: &[u8], lent: Counts) -> Tal
     ensures { BatchOutcome (policy_of kind) trace.now lent area.old area.new (ran_is result.ran) result.counts }
 {
     match opening::open(area, kind) {
-        Opened::Cache(c) => run(area, c, kind, trace),
-        Opened::Refused => Tally {
-            ran: Ran::Refused,
+        Ok(c) => run(area, c, kind, trace),
+        Err(_) => Tally {
+            ran: Err(Stopped::State),
             counts: lent,
         },
     }
 }
 
 // The same with a lent record of counts, which is set.
-pub fn batch(area: &mut [u64], kind: Kind, trace: &[u8], counts: &mut Counts) -> Ran
+pub fn batch(
+    area: &mut [u64],
+    kind: Kind,
+    trace: &[u8],
+    counts: &mut Counts,
+) -> Result<u64, Stopped>
     ensures { BatchOutcome (policy_of kind) trace.now counts.old area.old area.new (ran_is result) counts.new }
 {
     let t = tally_up(area, kind, trace, *counts);

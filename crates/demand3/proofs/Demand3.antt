@@ -9,6 +9,7 @@ use Prim.Native.Nat.{ℕ, ◌≤◌}
 use native.Mathlib.Omega.{arith}
 use lib.Dec.{eqb}
 use borrow.Author.Tests.{eqb-false}
+use Rattle.std.specs.Prelude.{Result, Ok, Err}
 use Rattle.rules.specs.State.{residents, resident}
 use Rattle.rules.specs.Calls.{Call, Insert, Answer, New, Finished, Stopped, Victim, out, Place, run}
 use Rattle.rules.specs.Counts as counting
@@ -30,8 +31,8 @@ use Rattle.contracts.proofs.Reading.{reads_sound, reads_complete}
 use Rattle.contracts.proofs.Outcomes.{outcome_is, making_is}
 use Rattle.batch.specs.Outcomes.{counts_is, ran_is, BatchOutcome}
 use Rattle.batch.specs.declared.Counts as batches
-use Rattle.batch.specs.declared.Ran.{Ran}
-use Rattle.batch.specs.declared.Ran.TheVariants as ran
+use Rattle.batch.specs.declared.Stopped as stop
+use Rattle.batch.specs.declared.Stopped.TheVariants.{Trace, State}
 use Rattle.batch.proofs.ByRules.{batch_is}
 use Rattle.demand3.specs.Runs as runs
 use Rattle.demand3.specs.Runs.{ran_counts, Run}
@@ -71,7 +72,7 @@ then : (m n : Counts) (v : List ℕ) (s t : Car) → Goes s m t → Reads t n v 
 then m n v s t g p = record { state = p.state; reads_as = p.reads_as; paid = omega (arith, g.pays, p.paid) }
 
 -- a batch on a state does not answer refusal 3: what it adds to the sum are its counts
-adds : (trace : List ℕ) (lent m : batches.Counts) (w u : List ℕ) (a : Ran) (s : Car)
+adds : (trace : List ℕ) (lent m : batches.Counts) (w u : List ℕ) (a : Result ℕ stop.Stopped) (s : Car)
     → BatchOutcome car_policy trace lent w u (ran_is a) m
     → reads car_policy w ≡ some s
     → ran_counts a m ≡ (batch does 0 trace s).counts
@@ -81,14 +82,14 @@ adds trace lent m w u a s x r =
     (ap (λ (d : Answer × counting.Counts). d.0) q)
     (ap (λ (d : Answer × counting.Counts). d.1) q)
   where
-    by : (a : Ran) (z : Bool)
+    by : (a : Result ℕ stop.Stopped) (z : Bool)
         → let b = batch does 0 trace s in ran_is a ≡ cond z (Finished b.done) (Stopped b.refusal b.offset)
         → counts_is m ≡ b.counts
         → ran_counts a m ≡ b.counts
-    by (ran.Done n) z e h = h
-    by (ran.Stopped i o) z e h = h
-    by ran.Refused true e h = absurd (let z : ◌≡◌ {A = ℕ} 0 1 = cc in let y : ⊥ = omega arith in y)
-    by ran.Refused false e h = absurd (let z : ◌≡◌ {A = ℕ} 0 1 = cc in let y : ⊥ = omega arith in y)
+    by (Ok n) z e h = h
+    by (Err (Trace i o)) z e h = h
+    by (Err State) true e h = absurd (let z : ◌≡◌ {A = ℕ} 0 1 = cc in let y : ⊥ = omega arith in y)
+    by (Err State) false e h = absurd (let z : ◌≡◌ {A = ℕ} 0 1 = cc in let y : ⊥ = omega arith in y)
 
 after_new : (c : ℕ) (a : Answer) (n : Counts) (w u v : List ℕ) (s : Car)
     → Obeys s

@@ -2,7 +2,7 @@
 use mathlib.Core.Path.{◌≡◌, refl}
 use mathlib.Core.List.{[], ◌∷◌}
 use lib.ListN.{length}
-use Rattle.rules.specs.State.{first}
+use Rattle.rules.specs.declared.Side.TheVariants.{First as first}
 use Rattle.rules.specs.Calls.{ghost, out, New, Stopped}
 use Rattle.rules.specs.Program.{bytes, text_of}
 use Rattle.lines.specs.Lines.{laid, line_room}

@@ -7,25 +7,24 @@ ghost use Rattle.std.specs.Prelude.{◌++◌};
 ghost use Rattle.rules.specs.Calls.{New, out as victim, Finished, Stopped};
 ghost use Rattle.rules.specs.Decimal.{decimal};
 ghost use Rattle.rules.specs.Program.{bytes, line, place_text, text_of};
-ghost use Rattle.answers.specs.Answers.{got_is, seen_is, gone_is, place_is, inserted_is, reply_is};
+ghost use Rattle.answers.specs.Answers.{told, got_is, seen_is, gone_is, place_is, inserted_is, reply_is};
 ghost use Rattle.lines.specs.Lines.{Room, LineRoom, Put};
 
-use answers::{Gone, Got, Inserted, Place, Reply, Seen};
+use answers::{Inserted, Place, Reply};
+use refusals::Refusal;
 
 // The bytes of a word.
 fn put_word(out: &mut [u8], at: usize, word: &[u8]) -> usize
     requires { Room out.old at word.now }
     ensures { Put out.old out.new at word.now result }
 {
-    let mut i: usize = 0;
-    while i < word.len() {
-        out[at + i] = word[i];
-        i += 1;
-    }
-    at + i
+    let end = at + word.len();
+    out[at..end].copy_from_slice(word);
+    end
 }
 
-// A number in decimal: the digits of a tenth of it, and its last digit.
+// A number in decimal: the digits of a tenth of it, and its last digit. The library's `itoa` is no plainer here: it
+// writes into a buffer of its own, to copy from, and its text would have to be proved the rules' `decimal`.
 fn put_number(out: &mut [u8], at: usize, n: u64) -> usize
     requires { Room out.old at (decimal n) }
     ensures { Put out.old out.new at (decimal n) result }
@@ -60,38 +59,35 @@ fn put_line(out: &mut [u8], at: usize, word: &[u8], n: u64) -> usize
 }
 
 // The line of `get`'s answer.
-fn put_got(out: &mut [u8], at: usize, r: Got) -> usize
+fn put_got(out: &mut [u8], at: usize, r: Option<u32>) -> usize
     requires { LineRoom out.old at }
     ensures { Put out.old out.new at (text_of (got_is r)) result }
 {
     match r {
-        Got::Hit(frame) => put_line(out, at, b"hit ", frame as u64),
-        Got::Miss => put_word(out, at, b"miss\n"),
-        Got::Refused => at,
+        Some(frame) => put_line(out, at, b"hit ", frame as u64),
+        None => put_word(out, at, b"miss\n"),
     }
 }
 
 // The line of `peek`'s answer.
-fn put_seen(out: &mut [u8], at: usize, r: Seen) -> usize
+fn put_seen(out: &mut [u8], at: usize, r: Option<u32>) -> usize
     requires { LineRoom out.old at }
     ensures { Put out.old out.new at (text_of (seen_is r)) result }
 {
     match r {
-        Seen::See(frame) => put_line(out, at, b"see ", frame as u64),
-        Seen::No => put_word(out, at, b"no\n"),
-        Seen::Refused => at,
+        Some(frame) => put_line(out, at, b"see ", frame as u64),
+        None => put_word(out, at, b"no\n"),
     }
 }
 
 // The line of `remove`'s answer.
-fn put_gone(out: &mut [u8], at: usize, r: Gone) -> usize
+fn put_gone(out: &mut [u8], at: usize, r: Option<u32>) -> usize
     requires { LineRoom out.old at }
     ensures { Put out.old out.new at (text_of (gone_is r)) result }
 {
     match r {
-        Gone::Frame(frame) => put_line(out, at, b"gone ", frame as u64),
-        Gone::Absent => put_word(out, at, b"absent\n"),
-        Gone::Refused => at,
+        Some(frame) => put_line(out, at, b"gone ", frame as u64),
+        None => put_word(out, at, b"absent\n"),
     }
 }
 
@@ -146,21 +142,21 @@ fn put_inserted(out: &mut [u8], at: usize, r: Inserted) -> usize
         } => put_victim(out, at, page, frame, place, steps),
         Inserted::Old(frame) => put_line(out, at, b"old ", frame as u64),
         Inserted::None => put_word(out, at, b"none\n"),
-        Inserted::Refused => at,
     }
 }
 
-// The line of what an operation answered; nothing for a refusal, which no operation gives.
-pub fn put_reply(out: &mut [u8], at: usize, r: Reply) -> usize
+// The line of what a call of an operation answered; nothing for a refusal, which no operation of a trace gives.
+pub fn put_reply(out: &mut [u8], at: usize, r: Result<Reply, Refusal>) -> usize
     requires { LineRoom out.old at }
-    ensures { Put out.old out.new at (text_of (reply_is r)) result }
+    ensures { Put out.old out.new at (text_of (told reply_is r)) result }
 {
     match r {
-        Reply::Got(g) => put_got(out, at, g),
-        Reply::Inserted(g) => put_inserted(out, at, g),
-        Reply::Gone(g) => put_gone(out, at, g),
-        Reply::Cleared => put_word(out, at, b"clear\n"),
-        Reply::Seen(g) => put_seen(out, at, g),
+        Ok(Reply::Got(g)) => put_got(out, at, g),
+        Ok(Reply::Inserted(g)) => put_inserted(out, at, g),
+        Ok(Reply::Gone(g)) => put_gone(out, at, g),
+        Ok(Reply::Cleared) => put_word(out, at, b"clear\n"),
+        Ok(Reply::Seen(g)) => put_seen(out, at, g),
+        Err(_) => at,
     }
 }
 

@@ -4,6 +4,8 @@ use mathlib.Core.List.{List}
 use mathlib.Core.Option.{some, none}
 use Prim.Native.Nat.{ℕ}
 use lib.ListN.{length, length-map}
+use Rattle.std.specs.Prelude.{Result}
+use Rattle.refusals.specs.declared.Refusal.{Refusal}
 use Rattle.rules.specs.Calls as rules
 use Rattle.rules.specs.Calls.{Ask, Listing, Answer, Refused}
 use Rattle.rules.specs.Public.{ListingDone, listed, written}
@@ -14,13 +16,12 @@ use Rattle.contracts.proofs.ByRules.{by_rules}
 use Rattle.listing.specs.Outcome.{record_is, records_are, listed_is, listing_done, ListingOutcome}
 use Rattle.listing.specs.Writing.{gives, ListingByRules}
 use Rattle.listing.specs.declared.Record.{Record}
-use Rattle.listing.specs.declared.Listed.{Listed}
 
 -- its answer and its records
 abbrev given : {S : Type 0} → ListingDone S → Answer × List rules.Record
 given d = (d.answer, d.records)
 
-module _ (P : Policy) (lent : List Record) (w : List ℕ) (left : List Record) (a : Listed) where
+module _ (P : Policy) (lent : List Record) (w : List ℕ) (left : List Record) (a : Result ℕ Refusal) where
   -- A LISTING OF A STATE answers and writes what the rules say
   pub listing_is : ListingOutcome P w lent left a
       → (t : P.State)

@@ -5,12 +5,13 @@ use mathlib.Core.List.{List, [], ◌∷◌}
 use Prim.Native.Nat.{ℕ, suc}
 use native.Mathlib.Omega.{arith}
 use lib.ListN.{length, get_or, drop}
+use Rattle.std.specs.Prelude.{Result}
+use Rattle.refusals.specs.declared.Refusal.{Refusal}
 use Rattle.rules.specs.Calls as rules
+use Rattle.answers.proofs.OneToOne.{counted_one}
 use Rattle.contracts.specs.Policy.{Policy}
 use Rattle.listing.specs.Outcome.{record_is, records_are, listed_is, ListingOutcome}
 use Rattle.listing.specs.declared.Record.{Record}
-use Rattle.listing.specs.declared.Listed.{Listed}
-use Rattle.listing.specs.declared.Listed.TheVariants as answer
 
 pub record_one : (r q : Record) → record_is r ≡ record_is q → r ≡ q
 record_one r q e =
@@ -29,18 +30,10 @@ records_one (x ∷ l) (y ∷ m) e =
     head_one : (a b : rules.Record) (k n : List rules.Record) → a ∷ k ≡ b ∷ n → a ≡ b
     head_one a b k n e = ap (λ (o : List rules.Record). get_or o 0 a) e
 
-pub listed_one : (a b : Listed) → listed_is a ≡ listed_is b → a ≡ b
-listed_one (answer.Count n) (answer.Count m) q = cc
-listed_one (answer.Count n) answer.Room q = cc
-listed_one (answer.Count n) answer.Refused q = cc
-listed_one answer.Room (answer.Count n) q = cc
-listed_one answer.Room answer.Room q = cc
-listed_one answer.Room answer.Refused q = cc
-listed_one answer.Refused (answer.Count n) q = cc
-listed_one answer.Refused answer.Room q = cc
-listed_one answer.Refused answer.Refused q = cc
+pub listed_one : (a b : Result ℕ Refusal) → listed_is a ≡ listed_is b → a ≡ b
+listed_one = counted_one
 
-pub outcomes_equal : (P : Policy) (w : List ℕ) (lent l m : List Record) (a b : Listed)
+pub outcomes_equal : (P : Policy) (w : List ℕ) (lent l m : List Record) (a b : Result ℕ Refusal)
     → ListingOutcome P w lent l a
     → ListingOutcome P w lent m b
     → (a ≡ b) × (l ≡ m)

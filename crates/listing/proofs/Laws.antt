@@ -1,6 +1,6 @@
--- The laws that answer the needs of the covered functions. In order: past the end of T1; the loop over the slots; one step; the plan. Assumes nothing.
+-- The laws that answer the needs of the covered functions. In order: the loop over the slots; one step; the plan. Assumes nothing.
 use mathlib.Core.Path.{◌≡◌, refl, sym, ap, ◌∙◌}
-use mathlib.Core.Bool.{Bool, true, false, cond}
+use mathlib.Core.Bool.{Bool, false, cond}
 use mathlib.Core.List.{List}
 use Prim.Native.Nat.{ℕ, suc, ◌+◌, ◌-◌, ◌<◌, ◌≤◌}
 use native.Mathlib.Omega.{arith}
@@ -9,8 +9,12 @@ use lib.ListN.{length, get_or}
 use mir.Syntax.{w64}
 use mir.Val.{Fits}
 use borrow.Author.Rules.{rules}
-use borrow.Author.Tests.{eq-eqb, ne_eqb, lt-ltb, le-ltb}
+use borrow.Author.Tests.{lt-ltb, le-ltb}
+use Rattle.std.specs.Prelude.{Result, Ok, Err}
+use Rattle.refusals.specs.declared.Refusal.{Refusal}
+use Rattle.refusals.specs.declared.Refusal.TheVariants.{Room}
 use Rattle.rules.specs.State.{residents}
+use Rattle.rules.specs.declared.Side.TheVariants.{First as first, Second as second}
 use Rattle.rules.specs.Car.{taken}
 use Rattle.area_state.specs.Parts as parts
 use Rattle.area_state.specs.States.{resident_at}
@@ -23,56 +27,36 @@ use Rattle.contracts.specs.Policy.{policy_of}
 use Rattle.rules.specs.declared.Kind.{Kind}
 use Rattle.rules.specs.declared.Kind.TheVariants as kinds
 use Rattle.opening.specs.Opening.{Holding, Opens}
-use Rattle.opening.specs.declared.Opened.{Opened}
-use Rattle.opening.specs.declared.Opened.TheVariants as opened
 use Rattle.opening.proofs.Public.{opens_as}
 use Rattle.listing.specs.Order.{taken_from, past}
 use Rattle.listing.specs.Steps.{order_in, record_at, plan_of, StandsIn, Stands, Follows, StepIs}
-use Rattle.listing.specs.declared.Listed.TheVariants.{Count, Room, Refused}
 use Rattle.listing.proofs.Slots.{stands_slot, stands_below, first_arc, first_car, next_arc, next_car}
 use Rattle.listing.proofs.Records.{order_length}
 
 -- ---- past the end of T1
-pub onward_end : (c at d r : ℕ) → at ≡ c → r ≡ d → r ≡ cond (eqb at c) d at
-onward_end c at d r q p = rw (eq-eqb at c q) p
-
-pub onward_on : (c at d : ℕ) → (at ≡ c → ⊥) → at ≡ cond (eqb at c) d at
-onward_on c at d n = rw (ne_eqb at c n) refl
 
 -- ---- the loop over the slots: the first taken one from k on is that from `from` on
 pub record TakenLeft (c : ℕ) (w : List ℕ) (from k : ℕ) : Type 0 where
   pub low : k ≤ c
   pub same : taken_from (state_in c w).lists k (c - k) ≡ taken_from (state_in c w).lists from (c - from)
 
-pub taken_start : (c : ℕ) (w : List ℕ) (from : ℕ) → from ≤ c → TakenLeft c w from from
-taken_start c w from h = record { low = h; same = refl }
-
 module _ (c : ℕ) (w : List ℕ) (from k : ℕ) (t : TakenLeft c w from k) where
   turn : k < c → cond (ltb 0 (taken k (state_in c w).lists)) k (taken_from (state_in c w).lists (suc k) (c - (k + 1))) ≡ taken_from (state_in c w).lists from (c - from)
   turn l = let z : c - k ≡ suc (c - (k + 1)) = omega arith in let s : taken_from (state_in c w).lists k (c - k) ≡ taken_from (state_in c w).lists from (c - from) = t.same in rw z at s
 
-  pub taken_here : (b : Bool) → k < c → b ≡ ltb 0 (taken k (state_in c w).lists) → b ≡ true → k ≡ taken_from (state_in c w).lists from (c - from)
-  taken_here b l q y = let s = turn l in rw (sym q ∙ y) at s
-
   pub taken_on : (b : Bool) → k < c → b ≡ ltb 0 (taken k (state_in c w).lists) → b ≡ false → TakenLeft c w from (k + 1)
   taken_on b l q y = let s = turn l in let z : k + 1 ≡ suc k = omega arith in record { low = omega arith; same = ap (λ (n : ℕ). taken_from (state_in c w).lists n (c - (k + 1))) z ∙ (rw (sym q ∙ y) at s) }
 
-  pub taken_end : c ≤ k → k ≡ taken_from (state_in c w).lists from (c - from)
-  taken_end l = let h : k ≤ c = t.low in let z : c - k ≡ 0 = omega arith in let s : taken_from (state_in c w).lists k (c - k) ≡ taken_from (state_in c w).lists from (c - from) = t.same in rw z at s
-
-pub taken_less : (c k : ℕ) → k < c → c - (k + 1) < c - k
-taken_less c k l = omega arith
-
 -- ---- by the kind
 module _ (kind : Kind) (c : ℕ) (w : List ℕ) (s : Stored c w) where
-  pub first_in_arc : kind ≡ kinds.Arc → (e r : ℕ) → e ≡ get_or (slots_at 0 c w) 0 (c + 0) → r ≡ cond (eqb e c) (get_or (slots_at 1 c w) 0 (c + 1)) e → r ≡ get_or (order_in kind c w) 0 (past kind c)
+  pub first_in_arc : kind ≡ kinds.Arc → (e r : ℕ) → e ≡ get_or (slots_at first c w) 0 (c + 0) → r ≡ cond (eqb e c) (get_or (slots_at second c w) 0 (c + 1)) e → r ≡ get_or (order_in kind c w) 0 (past kind c)
   first_in_arc k e r p q = rw k (first_arc c w s e r p q)
 
   pub first_in_car : kind ≡ kinds.Car → (r : ℕ) → r ≡ taken_from (state_in c w).lists 0 (c - 0) → r ≡ get_or (order_in kind c w) 0 (past kind c)
   first_in_car k r q = rw k (first_car c w s r q)
 
 module _ (kind : Kind) (c : ℕ) (w : List ℕ) (e : ℕ) (t : StandsIn kind c w e) where
-  pub next_in_arc : kind ≡ kinds.Arc → (n r : ℕ) → NextIs c w e n → r ≡ cond (eqb n c) (get_or (slots_at 1 c w) 0 (c + 1)) n → Follows kind c w e r
+  pub next_in_arc : kind ≡ kinds.Arc → (n r : ℕ) → NextIs c w e n → r ≡ cond (eqb n c) (get_or (slots_at second c w) 0 (c + 1)) n → Follows kind c w e r
   next_in_arc k n r p q = rw k (next_arc c w t.stored e n r p q)
 
   pub next_in_car : kind ≡ kinds.Car → (r : ℕ) → r ≡ taken_from (state_in c w).lists (e + 1) (c - (e + 1)) → Follows kind c w e r
@@ -120,30 +104,21 @@ module _ (kind : Kind) (c : ℕ) (w : List ℕ) (h : Holding (policy_of kind).ki
         let m : c ≤ 1024 = holding_stored.holds.small in
         record { fits = omega arith }
 
-    pub plan_room : (room : ℕ) → room < a + b → record { answer = Room; count = 0; first = 0 } ≡ plan_of kind w room
+    pub plan_room : (room : ℕ) → room < a + b → Err Room ≡ plan_of kind w room
     unfolding plan_of
     plan_room room l = rw (h.test, sym count_is, lt-ltb room (a + b) l) refl
 
-    pub plan_count : (room first : ℕ) → a + b ≤ room → first ≡ get_or (order_in kind c w) 0 (past kind c) → record { answer = Count (a + b); count = a + b; first = first } ≡ plan_of kind w room
+    pub plan_count : (room place : ℕ) → a + b ≤ room → place ≡ get_or (order_in kind c w) 0 (past kind c) → Ok (record { count = a + b; first = place }) ≡ plan_of kind w room
     unfolding plan_of
-    plan_count room first l z = rw (h.test, sym count_is, le-ltb room (a + b) l, z, h.capacity) refl
+    plan_count room place l z = rw (h.test, sym count_is, le-ltb room (a + b) l, z, h.capacity) refl
 
-module _ (kind : Kind) (w : List ℕ) (o : Opened) (h : Opens (policy_of kind).kind w o) where
-  pub plan_refused : (room : ℕ) → o ≡ opened.Refused → record { answer = Refused; count = 0; first = 0 } ≡ plan_of kind w room
+module _ (kind : Kind) (w : List ℕ) (o : Result ℕ Refusal) (h : Opens (policy_of kind).kind w o) where
+  pub plan_refused : (room : ℕ) (e : Refusal) → o ≡ Err e → Err e ≡ plan_of kind w room
   unfolding plan_of
-  plan_refused room q = rw (opens_as (policy_of kind) o w h opened.Refused q) refl
-
-  pub plan_asks : (c : ℕ) → o ≡ opened.Cache c → Holding (policy_of kind).kind c w
-  plan_asks c q = opens_as (policy_of kind) o w h (opened.Cache c) q
+  plan_refused room e q = let r = opens_as (policy_of kind) o w h (Err e) q in rw (r.0, r.1) refl
 
 pub ruleset laws = (
-  onward_end,
-  onward_on,
-  taken_start,
-  taken_here,
   taken_on,
-  taken_end,
-  taken_less,
   first_in_arc,
   first_in_car,
   next_in_arc,
@@ -161,6 +136,5 @@ pub ruleset laws = (
   plan_room,
   plan_count,
   plan_refused,
-  plan_asks,
   rules,
 )

@@ -5,6 +5,8 @@ use mathlib.Core.Bool.{false≢true}
 use mathlib.Core.List.{List}
 use Prim.Native.Nat.{ℕ}
 use lib.ListN.{length}
+use Rattle.std.specs.Prelude.{Result}
+use Rattle.refusals.specs.declared.Refusal.{Refusal}
 use Rattle.rules.specs.Calls as rules
 use Rattle.rules.specs.Calls.{Ask, Listing, Answer}
 use Rattle.contracts.specs.Policy.{Policy}
@@ -14,7 +16,6 @@ use Rattle.contracts.proofs.Exact.{Exact}
 use Rattle.contracts.proofs.Refusing.{exactly}
 use Rattle.listing.specs.Outcome.{listed_is, ListingOutcome}
 use Rattle.listing.specs.declared.Record.{Record}
-use Rattle.listing.specs.declared.Listed.{Listed}
 use Rattle.listing.proofs.ByRules.{listing_is, listing_refused}
 
 -- what it answers, of that and its records
@@ -23,7 +24,7 @@ answer d = d.0
 
 pub listing_refused_exactly : (P : Policy)
     → Exact P
-    → (w : List ℕ) (lent left : List Record) (a : Listed)
+    → (w : List ℕ) (lent left : List Record) (a : Result ℕ Refusal)
     → ListingOutcome P w lent left a
     → Exactly P w (listed_is a)
 listing_refused_exactly P e w lent left a o =

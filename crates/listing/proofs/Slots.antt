@@ -9,11 +9,14 @@ use lib.Dec.{eqb, ltb}
 use lib.ListN.{get_or}
 use borrow.Author.Tests.{ltb-true, ltb-false, eqb-true}
 use Rattle.rules.specs.Lists.{one, times}
+use Rattle.rules.specs.declared.Side.{Side}
+use Rattle.rules.specs.declared.Side.TheVariants.{First as first, Second as second}
 use Rattle.rules.specs.Car.{taken}
 use Rattle.rules.proofs.ListLaws.{by_test}
 use Rattle.rings.specs.Members.{Mem, Below}
 use Rattle.rings.proofs.Members.{mem_append}
-use Rattle.area_state.specs.Parts.{state_of}
+use Rattle.area_state.specs.Parts.{state_of, number_of}
+use Rattle.area_state.proofs.Sides.{number_below}
 use Rattle.area_state.proofs.Slots.{has_slot}
 use Rattle.area.specs.Area.{parts_of}
 use Rattle.area.specs.Stored.{Stored, state_in}
@@ -38,29 +41,29 @@ module _ (c : ℕ) (w : List ℕ) (s : Stored c w) where
   capacity_is = refl
 
   -- ---- each is a slot that is taken
-  slot_in : (i e : ℕ) → i < 2 → Mem e (slots_at i c w) → IsSlot c w e
-  slot_in i e side m = record { number = i; slot = record { stored = s; side = side; member = rw (slots_are c w s i side) at m } }
+  slot_in : (i : Side) (e : ℕ) → Mem e (slots_at i c w) → IsSlot c w e
+  slot_in i e m = record { side = i; slot = record { stored = s; member = rw (slots_are c w s i) at m } }
 
   pub order_slot : (kind : Kind) (e : ℕ) → Mem e (order_in kind c w) → IsSlot c w e
   unfolding order
-  order_slot kinds.Arc e m = ⊎_elim (slot_in 0 e (omega arith)) (slot_in 1 e (omega arith)) (mem_append e (slots_at 0 c w) (slots_at 1 c w) m)
+  order_slot kinds.Arc e m = ⊎_elim (slot_in first e) (slot_in second e) (mem_append e (slots_at first c w) (slots_at second c w) m)
   order_slot kinds.Car e m =
-      let t : 0 < times e (slots_at 0 c w) + times e (slots_at 1 c w) = ltb-true 0 (taken e (state_in c w).lists) (rising_taken (state_in c w).lists 0 (state_in c w).lists.c e m) in
-      by_test (λ b. ltb 0 (times e (slots_at 0 c w)) ≡ b → IsSlot c w e) (ltb 0 (times e (slots_at 0 c w)))
-      (λ _ q. slot_in 0 e (omega arith) (mem_times e (slots_at 0 c w) (ltb-true 0 _ q)))
-      (λ _ q. slot_in 1 e (omega arith) (mem_times e (slots_at 1 c w) (let z : times e (slots_at 0 c w) ≤ 0 = ltb-false 0 _ q in omega arith)))
+      let t : 0 < times e (slots_at first c w) + times e (slots_at second c w) = ltb-true 0 (taken e (state_in c w).lists) (rising_taken (state_in c w).lists 0 (state_in c w).lists.c e m) in
+      by_test (λ b. ltb 0 (times e (slots_at first c w)) ≡ b → IsSlot c w e) (ltb 0 (times e (slots_at first c w)))
+      (λ _ q. slot_in first e (mem_times e (slots_at first c w) (ltb-true 0 _ q)))
+      (λ _ q. slot_in second e (mem_times e (slots_at second c w) (let z : times e (slots_at first c w) ≤ 0 = ltb-false 0 _ q in omega arith)))
       refl
 
-  below : (i : ℕ) → i < 2 → Below c (slots_at i c w)
-  below i side = rw (slots_are c w s i side) (s.holds.residents.rings i (omega arith)).below
+  below : (i : Side) → Below c (slots_at i c w)
+  below i = rw (slots_are c w s i) (s.holds.residents.rings (number_of i) (let l : number_of i < 2 = number_below i in omega arith)).below
 
   -- ---- the first
-  pub first_arc : (e r : ℕ) → e ≡ get_or (slots_at 0 c w) 0 (c + 0) → r ≡ cond (eqb e c) (get_or (slots_at 1 c w) 0 (c + 1)) e → r ≡ get_or (order_in kinds.Arc c w) 0 (past kinds.Arc c)
+  pub first_arc : (e r : ℕ) → e ≡ get_or (slots_at first c w) 0 (c + 0) → r ≡ cond (eqb e c) (get_or (slots_at second c w) 0 (c + 1)) e → r ≡ get_or (order_in kinds.Arc c w) 0 (past kinds.Arc c)
   unfolding order
   first_arc e r p q =
       let z : c + 0 ≡ c = omega arith in
-      let y : e ≡ get_or (slots_at 0 c w) 0 c = rw z at p in
-      q ∙ rw y (joined_first c (slots_at 0 c w) (slots_at 1 c w) (below 0 (omega arith)))
+      let y : e ≡ get_or (slots_at first c w) 0 c = rw z at p in
+      q ∙ rw y (joined_first c (slots_at first c w) (slots_at second c w) (below first))
 
   pub first_car : (r : ℕ) → r ≡ taken_from (state_in c w).lists 0 (c - 0) → r ≡ get_or (order_in kinds.Car c w) 0 (past kinds.Car c)
   unfolding order
@@ -69,12 +72,12 @@ module _ (c : ℕ) (w : List ℕ) (s : Stored c w) where
       q ∙ rw z (sym (rw capacity_is (rising_first (state_in c w).lists 0 c c (omega arith))))
 
   -- ---- what comes after a slot
-  pub next_arc : (e n r : ℕ) → NextIs c w e n → r ≡ cond (eqb n c) (get_or (slots_at 1 c w) 0 (c + 1)) n → Follows kinds.Arc c w e r
+  pub next_arc : (e n r : ℕ) → NextIs c w e n → r ≡ cond (eqb n c) (get_or (slots_at second c w) 0 (c + 1)) n → Follows kinds.Arc c w e r
   unfolding order
   next_arc e n r p q =
       let z : c + 0 ≡ c = omega arith in
       record {
-        next = λ j less at. q ∙ joined_next c (slots_at 0 c w) (slots_at 1 c w) n e j (below 0 (omega arith)) (below 1 (omega arith)) (λ k h y. p.next 0 k (omega arith) h y ∙ ap (get_or (slots_at 0 c w) (suc k)) z) (λ k h y. p.next 1 k (omega arith) h y) less at;
+        next = λ j less at. q ∙ joined_next c (slots_at first c w) (slots_at second c w) n e j (below first) (below second) (λ k h y. p.next first k h y ∙ ap (get_or (slots_at first c w) (suc k)) z) (λ k h y. p.next second k h y) less at;
       }
 
   pub next_car : (e r : ℕ) → e < c → r ≡ taken_from (state_in c w).lists (e + 1) (c - (e + 1)) → Follows kinds.Car c w e r
@@ -90,4 +93,4 @@ module _ (kind : Kind) (c : ℕ) (w : List ℕ) (e : ℕ) (t : StandsIn kind c w
   stands_slot = order_slot c w t.stored kind e (rw t.at at (mem_get_d (order_in kind c w) t.place t.less))
 
   pub stands_below : e < c
-  stands_below = let h = stands_slot in (has_slot c (parts_of c w) h.slot.stored.holds h.number e h.slot.side h.slot.member).slot
+  stands_below = let h = stands_slot in (has_slot c (parts_of c w) h.slot.stored.holds (number_of h.side) e (number_below h.side) h.slot.member).slot

@@ -1,5 +1,7 @@
 -- What a listing reads of an area: the plan, and one resident after the other. Assumes nothing.
-use Rattle.std.specs.Prelude.{◌≡◌, cond, List, map, ℕ, suc, ◌<◌, ltb, length, get_or}
+use Rattle.std.specs.Prelude.{◌≡◌, cond, List, map, ℕ, suc, ◌<◌, ltb, length, get_or, Result, Ok, Err}
+use Rattle.refusals.specs.declared.Refusal.{Refusal}
+use Rattle.refusals.specs.declared.Refusal.TheVariants.{State, Room}
 use Rattle.rules.specs.Car.{Car}
 use Rattle.area_state.specs.States.{resident_at}
 use Rattle.area.specs.Area.{capacity_of}
@@ -9,7 +11,6 @@ use Rattle.contracts.specs.Policy.{policy_of}
 use Rattle.rules.specs.declared.Kind.{Kind}
 use Rattle.listing.specs.Order.{order, past}
 use Rattle.listing.specs.declared.Record.{Record}
-use Rattle.listing.specs.declared.Listed.TheVariants.{Count, Room, Refused}
 use Rattle.listing.specs.declared.Plan.{Plan}
 use Rattle.listing.specs.declared.Step.{Step}
 
@@ -26,15 +27,15 @@ records_in kind w = map (record_at (state_in (capacity_of w) w)) (order_in kind 
 
 -- the plan of a listing that is accepted: as many records as there are residents, from the first slot on
 abbrev pub accepted : ℕ → List ℕ → Plan
-accepted d l = record { answer = Count (length l); count = length l; first = get_or l 0 d }
+accepted d l = record { count = length l; first = get_or l 0 d }
 
 -- THE PLAN of a listing into so many records: refusal 3 before refusal 6
-unfoldable pub plan_of : Kind → List ℕ → ℕ → Plan
+unfoldable pub plan_of : Kind → List ℕ → ℕ → Result Plan Refusal
 plan_of kind w room =
     let l = order_in kind (capacity_of w) w in
     cond (state_test (policy_of kind).kind w)
-    (cond (ltb room (length l)) (record { answer = Room; count = 0; first = 0 }) (accepted (past kind (capacity_of w)) l))
-    (record { answer = Refused; count = 0; first = 0 })
+    (cond (ltb room (length l)) (Err Room) (Ok (accepted (past kind (capacity_of w)) l)))
+    (Err State)
 
 -- slot e is one of the listing's
 pub record StandsIn (kind : Kind) (c : ℕ) (w : List ℕ) (e : ℕ) : Type 0 where

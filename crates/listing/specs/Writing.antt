@@ -1,5 +1,6 @@
 -- What the rules say of a listing. Assumes nothing.
-use Rattle.std.specs.Prelude.{List, ℕ, length}
+use Rattle.std.specs.Prelude.{List, ℕ, length, Result}
+use Rattle.refusals.specs.declared.Refusal.{Refusal}
 use Rattle.rules.specs.Calls as rules
 use Rattle.rules.specs.Calls.{Ask, Listing, Answer, Refused}
 use Rattle.rules.specs.Public.{written}
@@ -7,7 +8,6 @@ use Rattle.contracts.specs.Policy.{Policy}
 use Rattle.contracts.specs.Writing.{ByRules}
 use Rattle.listing.specs.Outcome.{records_are, listed_is}
 use Rattle.listing.specs.declared.Record.{Record}
-use Rattle.listing.specs.declared.Listed.{Listed}
 
 module _ (P : Policy) (lent : List Record) where
   -- how many residents there are and the record of each, over the records `lent`; or refusal 6, and all as it was
@@ -15,7 +15,7 @@ module _ (P : Policy) (lent : List Record) where
   gives t = ((P.does (Ask (Listing (length lent))) t).answer, written (P.listing t) (records_are lent))
 
   -- on the words w, which it leaves, it answers a and leaves the records `left`
-  abbrev pub ListingByRules : List ℕ → List Record → Listed → Type 0
+  abbrev pub ListingByRules : List ℕ → List Record → Result ℕ Refusal → Type 0
   ListingByRules w left a =
       let kept : Answer × List rules.Record = (Refused 3, records_are lent) in
       ByRules P gives (λ t. t) kept w w (listed_is a, records_are left)

@@ -5,6 +5,7 @@
 
 ghost use Rattle.std.specs.Prelude.{◌≡◌, cond, ◌+◌, ◌-◌, ◌≤◌, eqb, get_or};
 ghost use Rattle.area.specs.Stored.{Stored, state_in};
+ghost use Rattle.rules.specs.declared.Side.TheVariants.{Second as second};
 ghost use Rattle.store.specs.Store.{slots_at};
 ghost use Rattle.contracts.specs.Policy.{policy_of};
 ghost use Rattle.opening.specs.Opening.{Holding};
@@ -12,8 +13,8 @@ ghost use Rattle.listing.specs.Order.{order, past, taken_from};
 ghost use Rattle.listing.specs.Steps.{Stands, StandsIn, Follows, StepIs, plan_of};
 ghost use Rattle.listing.specs.Outcome.{blanks, ListingOutcome};
 
-use opening::Opened;
-use rules::Kind;
+use refusals::Refusal;
+use rules::{Kind, Side};
 
 // A resident as a listing writes it.
 #[derive(Clone, Copy)]
@@ -22,26 +23,16 @@ pub struct Record {
     pub frame: u32,
 }
 
-// How many records a listing wrote; or `Room`, refusal 6: there are fewer records than residents; or `Refused`, refusal 3: the area is
-// not well formed for the policy.
-#[derive(Clone, Copy)]
-pub enum Listed {
-    Count(u64),
-    Room,
-    Refused,
-}
-
-// What a listing answers, and records of which it wrote so many.
+// What a listing answers: how many records it wrote, or a refusal; and records of which it wrote so many.
 #[derive(Clone, Copy)]
 pub struct Listing {
-    pub answer: Listed,
+    pub answer: Result<u64, Refusal>,
     pub records: [Record; 1024],
 }
 
-// What a listing answers, how many records it writes, and where the first resident stands.
+// How many records a listing writes, and where the first resident stands.
 #[derive(Clone, Copy)]
 pub struct Plan {
-    pub answer: Listed,
     pub count: usize,
     pub first: usize,
 }
@@ -56,10 +47,10 @@ pub struct Step {
 // Past the last slot of T1 comes the first of T2.
 fn onward(area: &[u64], c: usize, at: usize) -> usize
     requires { Stored c area.now }
-    ensures { result ≡ cond (eqb at c) (get_or (slots_at 1 c area.now) 0 (c + 1)) at }
+    ensures { result ≡ cond (eqb at c) (get_or (slots_at second c area.now) 0 (c + 1)) at }
 {
     if at == c {
-        return store::start(area, c, 1);
+        return store::start(area, c, Side::Second);
     }
     at
 }
@@ -69,14 +60,12 @@ fn taken_from(area: &[u64], c: usize, from: usize) -> usize
     requires { Stored c area.now × (from ≤ c) }
     ensures { result ≡ taken_from (state_in c area.now).lists from (c - from) }
 {
-    let mut k = from;
-    while k < c {
+    for k in from..c {
         if store::taken(area, c, k) {
             return k;
         }
-        k += 1;
     }
-    k
+    c
 }
 
 // Where the first resident stands, and where the one after that of slot e.
@@ -86,7 +75,7 @@ fn first_of(area: &[u64], kind: Kind, c: usize) -> usize
 {
     match kind {
         Kind::Arc => {
-            let e = store::start(area, c, 0);
+            let e = store::start(area, c, Side::First);
             onward(area, c, e)
         }
         Kind::Car => taken_from(area, c, 0),
@@ -110,40 +99,27 @@ fn next_of(area: &[u64], kind: Kind, c: usize, e: usize) -> usize
 }
 
 // The plan for an area that has passed the check.
-fn prepare_in(area: &[u64], kind: Kind, c: usize, room: usize) -> Plan
+fn prepare_in(area: &[u64], kind: Kind, c: usize, room: usize) -> Result<Plan, Refusal>
     requires { Holding (policy_of kind).kind c area.now }
     ensures { result ≡ plan_of kind area.now room }
 {
-    let t1 = store::listed(area, c, 0);
-    let t2 = store::listed(area, c, 1);
+    let t1 = store::listed(area, c, Side::First);
+    let t2 = store::listed(area, c, Side::Second);
     let n = t1 + t2;
     if room < n {
-        return Plan {
-            answer: Listed::Room,
-            count: 0,
-            first: 0,
-        };
+        return Err(Refusal::Room);
     }
     let first = first_of(area, kind, c);
-    Plan {
-        answer: Listed::Count(n as u64),
-        count: n,
-        first,
-    }
+    Ok(Plan { count: n, first })
 }
 
-// What a listing into so many records answers and writes, on any words.
-pub fn prepare(area: &[u64], kind: Kind, room: usize) -> Plan
+// What a listing into so many records writes, on any words: refusal 3 where they are not well formed for the policy, refusal 6 where
+// there are fewer records than residents.
+pub fn prepare(area: &[u64], kind: Kind, room: usize) -> Result<Plan, Refusal>
     ensures { result ≡ plan_of kind area.now room }
 {
-    match opening::open(area, kind) {
-        Opened::Cache(c) => prepare_in(area, kind, c, room),
-        Opened::Refused => Plan {
-            answer: Listed::Refused,
-            count: 0,
-            first: 0,
-        },
-    }
+    let c = opening::open(area, kind)?;
+    prepare_in(area, kind, c, room)
 }
 
 // The resident of slot `at`, and where the next one of the listing stands.
@@ -161,22 +137,20 @@ pub fn advance(area: &[u64], kind: Kind, at: usize) -> Step
     }
 }
 
-// THE LISTING: the residents into `records`, from the first one on. Where there are fewer records than residents nothing is written, nor
-// where the area is not well formed; records past the written ones keep what they held.
-pub fn list(area: &[u64], kind: Kind, records: &mut [Record]) -> Listed
+// THE LISTING: the residents into `records`, from the first one on, and how many there are. On a refusal nothing is written; records
+// past the written ones keep what they held.
+pub fn list(area: &[u64], kind: Kind, records: &mut [Record]) -> Result<u64, Refusal>
     ensures { ListingOutcome (policy_of kind) area.now records.old records.new result }
 {
-    let p = prepare(area, kind, records.len());
+    let p = prepare(area, kind, records.len())?;
     let n = p.count;
     let mut at = p.first;
-    let mut i = 0;
-    while i < n {
+    for r in &mut records[..n] {
         let s = advance(area, kind, at);
-        records[i] = s.resident;
+        *r = s.resident;
         at = s.next;
-        i += 1;
     }
-    p.answer
+    Ok(n as u64)
 }
 
 // A listing into records of its own, enough for every cache, which it gives back beside the answer: its callers lend no records.

@@ -2,7 +2,7 @@
 use mathlib.Core.Path.{◌≡◌, refl, sym, ap, subst, ◌∙◌}
 use mathlib.Core.Bool.{Bool, true, false, not}
 use mathlib.Core.List.{List, [], ◌∷◌, ◌++◌}
-use Prim.Native.Nat.{ℕ, ◌+◌, ◌-◌, ◌<◌, ◌≤◌}
+use Prim.Native.Nat.{ℕ, ◌+◌, ◌<◌, ◌≤◌}
 use native.Mathlib.Omega.{arith}
 use lib.Dec.{ltb}
 use lib.ListN.{length, take, drop, length-append, take-append-drop}
@@ -10,7 +10,7 @@ use lib.Seq.{length-take-le, take_at, take-take}
 use borrow.Author.Rules.{rules}
 use borrow.Author.Tests.{not-true}
 use Rattle.lines.specs.Lines.{line_room}
-use Rattle.rules.specs.declared.Kind.{Kind}
+use Rattle.replaying.specs.declared.Running as declared
 use Rattle.replaying.specs.declared.Replay.{Replay}
 use Rattle.replaying.specs.declared.Replay.TheVariants.{Start, Running, Ended}
 use Rattle.replaying.specs.Pending.{area_words, Ready}
@@ -41,8 +41,8 @@ stops r e d = let y : ◌≡◌ {A = ℕ} 0 1 = cc in omega arith
 pub goes_start : (r : Replay) (more : Bool) → r ≡ Start → more ≡ true → r ≡ Ended → ⊥
 goes_start r more e _ d = let y : ◌≡◌ {A = ℕ} 0 1 = cc in omega arith
 
-pub goes_running : (r : Replay) (more : Bool) (k : Kind) (c o n : ℕ) → r ≡ Running k c o n → more ≡ true → r ≡ Ended → ⊥
-goes_running r more k c o n e _ d = let y : ◌≡◌ {A = ℕ} 0 1 = cc in omega arith
+pub goes_running : (r : Replay) (more : Bool) (g : declared.Running) → r ≡ Running g → more ≡ true → r ≡ Ended → ⊥
+goes_running r more g e _ d = let y : ◌≡◌ {A = ℕ} 0 1 = cc in omega arith
 
 -- ---- one turn
 pub asks_room : (s : Standing) (area bytes out : List ℕ) → Stands s area bytes out → line_room ≤ length out
@@ -86,21 +86,23 @@ turned s t n written area bytes filled area₁ bytes₁ out₁ r e turn go =
     }
 
 -- ---- the loop
--- `left` turns are left of those that it may make
-pub record Going (area₀ bytes₀ out₀ : List ℕ) (s : Standing) (area bytes out : List ℕ) (left : ℕ) : Type 0 where
+-- after so many turns
+pub record Going (area₀ bytes₀ out₀ : List ℕ) (s : Standing) (area bytes out : List ℕ) (made : ℕ) : Type 0 where
   pub stands : Stands s area bytes out
   pub came : Came (length bytes₀) area₀ s area bytes
-  pub count : length came.turns + left ≡ 18446744073709551615
+  pub count : length came.turns ≡ made
+  pub few : made ≤ 18446744073709551615
   pub area_size : length area ≡ length area₀
   pub bytes_size : length bytes ≡ length bytes₀
   pub out_size : length out ≡ length out₀
 
-pub begins : (area bytes out : List ℕ) (r : Replay) (s : Standing) → Holds area out → r ≡ Start → s.replay ≡ r → s.kept ≡ 0 → Going area bytes out s area bytes out 18446744073709551615
+pub begins : (area bytes out : List ℕ) (r : Replay) (s : Standing) → Holds area out → r ≡ Start → s.replay ≡ r → s.kept ≡ 0 → Going area bytes out s area bytes out 0
 begins area bytes out r s h e d k =
     record {
       stands = record { ready = rw (d, e) h.words; kept = omega (arith, k); room = h.room };
       came = record { turns = []; chain = (d ∙ e, (refl, ap (λ (n : ℕ). take n bytes) k)) };
       count = refl;
+      few = omega arith;
       area_size = refl;
       bytes_size = refl;
       out_size = refl;
@@ -140,21 +142,22 @@ module _ (area₀ bytes₀ out₀ : List ℕ) (s t : Standing) (area bytes out a
       contrary : (b : Bool) → not b ≡ true → b ≡ true → ⊥
       contrary b q e = let d = not-true b q in let y : ◌≡◌ {A = ℕ} 0 1 = cc in omega arith
 
-  pub going_on : 0 < n → length area₁ ≡ length area → length bytes₁ ≡ length bytes → length out₁ ≡ length out → Stands t area₁ bytes₁ out₁
-      → Going area₀ bytes₀ out₀ t area₁ bytes₁ out₁ (n - 1)
-  going_on some a b o still =
+  pub going_on : n < 18446744073709551615 → length area₁ ≡ length area → length bytes₁ ≡ length bytes → length out₁ ≡ length out → Stands t area₁ bytes₁ out₁
+      → Going area₀ bytes₀ out₀ t area₁ bytes₁ out₁ (n + 1)
+  going_on less a b o still =
       record {
         stands = still;
         came = came_more;
         count = omega (arith, g.count, length-append g.came.turns (one ∷ []));
+        few = omega arith;
         area_size = a ∙ g.area_size;
         bytes_size = b ∙ g.bytes_size;
         out_size = o ∙ g.out_size;
       }
 
-pub worn_out : (area₀ bytes₀ out₀ : List ℕ) (s : Standing) (area bytes out : List ℕ) (n : ℕ) → Going area₀ bytes₀ out₀ s area bytes out n → n ≤ 0
+pub worn_out : (area₀ bytes₀ out₀ : List ℕ) (s : Standing) (area bytes out : List ℕ) (n : ℕ) → Going area₀ bytes₀ out₀ s area bytes out n → 18446744073709551615 ≤ n
     → Replays (length bytes₀) area₀ s area bytes
-worn_out area₀ bytes₀ out₀ s area bytes out n g none = record { came = g.came; stops = λ _. omega (arith, g.count) }
+worn_out area₀ bytes₀ out₀ s area bytes out n g none = record { came = g.came; stops = λ _. omega (arith, g.count, g.few) }
 
 -- ---- the arrays
 pub holds : (area out : List ℕ) → area_words ≡ length area → 262144 ≡ length out → Holds area out

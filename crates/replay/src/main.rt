@@ -51,7 +51,7 @@ fn write(t: Turned, out: &[u8]) -> bool
     let replay = t.replay;
     match replay {
         Replay::Start => is_written,
-        Replay::Running { .. } => is_written,
+        Replay::Running(_) => is_written,
         Replay::Ended => false,
     }
 }
@@ -76,7 +76,7 @@ fn turn(s: Standing, area: &mut [u64], bytes: &mut [u8], out: &mut [u8]) -> Stan
     }
 }
 
-// A proved loop has to end, and nothing says that the input does: the turns are counted down, from a number that no run uses up. Where the
+// A proved loop has to end, and nothing says that the input does: the turns are counted, up to a number that no run reaches. Where the
 // program stands then is told.
 fn replay_all(area: &mut [u64], bytes: &mut [u8], out: &mut [u8]) -> Standing
     requires { Holds area.old out.old }
@@ -87,13 +87,11 @@ fn replay_all(area: &mut [u64], bytes: &mut [u8], out: &mut [u8]) -> Standing
         kept: 0,
         more: true,
     };
-    let mut turns = u64::MAX;
-    while turns > 0 {
+    for _ in 0..u64::MAX {
         s = turn(s, area, bytes, out);
         if !s.more {
             return s;
         }
-        turns -= 1;
     }
     s
 }

@@ -7,6 +7,8 @@ use native.Mathlib.Nat.{add-zero}
 use native.Mathlib.Omega.{arith}
 use lib.Dec.{eqb}
 use lib.ListN.{length, drop}
+use Rattle.refusals.specs.declared.Refusal.{Refusal}
+use Rattle.refusals.specs.Refusals.{number_of}
 use Rattle.trace.specs.Reading.{whole, refused, operation_of}
 use Rattle.trace.specs.declared.Operation.{Operation}
 use Rattle.trace.proofs.Laws.{sound, Numbered}
@@ -47,10 +49,10 @@ module _ {S : Type 0} (does : Call → S → Done S) where
       ∙ ap (λ (n : ℕ). answer_then d.answer (batch does (o + n) (drop n (b ∷ bs)) d.state)) (sym q))
 
   -- a refusal
-  pub run_refused : (o b : ℕ) (bs : List ℕ) (s : S) (number place : ℕ) → operation_of b bs ≡ refused number place
-      → batch does o (b ∷ bs) s ≡ stopped number (o + place) s
+  pub run_refused : (o b : ℕ) (bs : List ℕ) (s : S) (r : Refusal) (place : ℕ) → operation_of b bs ≡ refused r place
+      → batch does o (b ∷ bs) s ≡ stopped (number_of r) (o + place) s
   unfolding run_from run_at
-  run_refused o b bs s number place e = rw e
+  run_refused o b bs s r place e = rw e
 
 module _ {S : Type 0} where
   -- ---- the lines
@@ -71,8 +73,8 @@ module _ {S : Type 0} where
   unfolding told_after texts_of
   told_end n o s = rw add-zero
 
-  pub told_stop : (n r o : ℕ) (s : S) → Numbered r → told_after n (stopped r o s) ≡ text_of (Stopped r o)
+  pub told_stop : (n : ℕ) (r : Refusal) (o : ℕ) (s : S) → Numbered r → told_after n (stopped (number_of r) o s) ≡ text_of (Stopped (number_of r) o)
   unfolding told_after texts_of
   told_stop n r o s h =
-      let z : r ≡ 0 → ⊥ = λ e. omega arith in
-      rw (ne_eqb r 0 z)
+      let z : number_of r ≡ 0 → ⊥ = λ e. omega arith in
+      rw (ne_eqb (number_of r) 0 z)

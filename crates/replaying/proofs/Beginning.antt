@@ -7,13 +7,14 @@ use native.Mathlib.Omega.{arith}
 use lib.ListN.{length, take, drop, length-append}
 use lib.Seq.{length-take-le, take_at, drop-append-le}
 use borrow.Author.Rules.{rules}
+use Rattle.std.specs.Prelude.{Result, Ok, Err}
+use Rattle.refusals.specs.Refusals.{number_of}
 use Rattle.rules.specs.Calls.{Stopped}
 use Rattle.rules.specs.Program.{text_of}
 use Rattle.lines.specs.Lines.{LineRoom, laid, Put}
-use Rattle.rules.specs.declared.Kind.{Kind}
 use Rattle.replaying.specs.declared.Replay.TheVariants.{Start, Running, Ended}
 use Rattle.replaying.specs.declared.Header.{Header}
-use Rattle.replaying.specs.declared.Header.TheVariants.{Cache, Stop}
+use Rattle.replaying.specs.declared.Stop.{Stop}
 use Rattle.replaying.specs.Pending.{pending}
 use Rattle.replaying.specs.Header.{header_of, Sizes, Fresh}
 use Rattle.replaying.specs.Feeding.{needed, Feeds, Wrote}
@@ -55,14 +56,15 @@ waits w bytes out last need b e h =
     }
 
 -- ---- a cache is made
-pub makes_sizes : (w out bytes : List ℕ) (h : Header) (k : Kind) (c used : ℕ) → Begins w out → h ≡ header_of bytes → h ≡ Cache k c used → Sizes c w
-makes_sizes w out bytes h k c used b e d = record { small = (allowed bytes h k c used e d).small; words = b.words }
+pub makes_sizes : (w out bytes : List ℕ) (h : Result Header Stop) (a : Header) → Begins w out → h ≡ header_of bytes → h ≡ Ok a → Sizes a.c w
+makes_sizes w out bytes h a b e d = record { small = (allowed bytes h a e d).small; words = b.words }
 
-pub begins : (w v bytes : List ℕ) (last : Bool) (need : ℕ) (h : Header) (k : Kind) (c used : ℕ) → need ≡ needed last → need ≤ length bytes
-    → h ≡ header_of bytes → h ≡ Cache k c used → Fresh k c w v → Feeds Start w bytes last (Running k c used 0) v used []
+pub begins : (w v bytes : List ℕ) (last : Bool) (need : ℕ) (h : Result Header Stop) (x : Header) → need ≡ needed last → need ≤ length bytes
+    → h ≡ header_of bytes → h ≡ Ok x → Fresh x.kind x.c w v
+    → Feeds Start w bytes last (Running (record { kind = x.kind; c = x.c; offset = x.used; done = 0 })) v x.used []
 unfolding pending
-begins w v bytes last need h k c used n there e d f =
-    let a = allowed bytes h k c used e d in
+begins w v bytes last need h x n there e d f =
+    let a = allowed bytes h x e d in
     record {
       inside = a.there;
       ready = record { good = f.good; few = omega arith };
@@ -70,16 +72,16 @@ begins w v bytes last need h k c used n there e d f =
       rest = f.rest;
       told = λ fits rest end.
           program_headed (bytes ++ rest)
-          ∙ ap (λ (x : Header). headed x (bytes ++ rest)) (header_given last bytes rest (omega (arith, n)) end ∙ sym e ∙ d)
-          ∙ rw (drop-append-le used bytes rest a.there, f.new) refl;
+          ∙ ap (λ (y : Result Header Stop). headed y (bytes ++ rest)) (header_given last bytes rest (omega (arith, n)) end ∙ sym e ∙ d)
+          ∙ rw (drop-append-le x.used bytes rest a.there, f.new) refl;
       progress = λ _ _. a.some;
     }
 
 -- ---- a refusal
-pub refuses : (w bytes before after : List ℕ) (last : Bool) (need : ℕ) (h : Header) (r o p : ℕ) → need ≡ needed last → need ≤ length bytes
-    → h ≡ header_of bytes → h ≡ Stop r o → Put before after 0 (text_of (Stopped r o)) p → Feeds Start w bytes last Ended w 0 (take p after)
+pub refuses : (w bytes before after : List ℕ) (last : Bool) (need : ℕ) (h : Result Header Stop) (x : Stop) (n p : ℕ) → need ≡ needed last → need ≤ length bytes
+    → h ≡ header_of bytes → h ≡ Err x → n ≡ number_of x.refusal → Put before after 0 (text_of (Stopped n x.offset)) p → Feeds Start w bytes last Ended w 0 (take p after)
 unfolding pending
-refuses w bytes before after last need h r o p n there e d s =
+refuses w bytes before after last need h x n p is there e d q s =
     record {
       inside = omega arith;
       ready = tt;
@@ -87,8 +89,9 @@ refuses w bytes before after last need h r o p n there e d s =
       rest = refl;
       told = λ fits rest end.
           program_headed (bytes ++ rest)
-          ∙ ap (λ (x : Header). headed x (bytes ++ rest)) (header_given last bytes rest (omega (arith, n)) end ∙ sym e ∙ d)
-          ∙ sym (put_there before after 0 (text_of (Stopped r o)) p (omega arith) s).0
+          ∙ ap (λ (y : Result Header Stop). headed y (bytes ++ rest)) (header_given last bytes rest (omega (arith, is)) end ∙ sym e ∙ d)
+          ∙ ap (λ (m : ℕ). text_of (Stopped m x.offset)) (sym q)
+          ∙ sym (put_there before after 0 (text_of (Stopped n x.offset)) p (omega arith) s).0
           ∙ sym (append-nil (take p after));
       progress = λ _ s. absurd (s refl);
     }

@@ -3,6 +3,6 @@ pub mod Batches
 pub mod Beginning
 pub mod Headers
 pub mod Pieces
-pub mod Running
+pub mod Operating
 pub mod Turning
 pub mod Whole

@@ -7,7 +7,7 @@ use native.Mathlib.Omega.{arith}
 use lib.ListN.{length}
 use borrow.Author.Rules.{rules}
 use Rattle.lines.specs.Lines.{line_room}
-use Rattle.rules.specs.declared.Kind.{Kind}
+use Rattle.replaying.specs.declared.Running as declared
 use Rattle.replaying.specs.declared.Replay.{Replay}
 use Rattle.replaying.specs.declared.Replay.TheVariants.{Start, Running, Ended}
 use Rattle.replaying.specs.Pending.{pending, Ready}
@@ -16,8 +16,8 @@ use Rattle.replaying.specs.Asked.{Begins, Goes, Runs}
 use Rattle.replaying.proofs.Beginning.{wrote_nothing}
 
 -- ---- offsets that cannot be counted, and those that can
-pub uncountable : (k : Kind) (c o n : ℕ) (w bytes : List ℕ) (last : Bool) → 18446744073709551615 - o < length bytes → Feeds (Running k c o n) w bytes last Ended w 0 []
-uncountable k c o n w bytes last h =
+pub uncountable : (g : declared.Running) (w bytes : List ℕ) (last : Bool) → 18446744073709551615 - g.offset < length bytes → Feeds (Running g) w bytes last Ended w 0 []
+uncountable g w bytes last h =
     record {
       inside = omega arith;
       ready = tt;
@@ -27,22 +27,22 @@ uncountable k c o n w bytes last h =
       progress = λ _ s. absurd (s refl);
     }
 
-pub countable : (k : Kind) (c o n : ℕ) (w bytes out : List ℕ) → Goes k c o n w out → o < 2 ^ 64 → length bytes ≤ 18446744073709551615 - o → Runs k c o n w bytes out
-countable k c o n w bytes out g small h = record { going = g.going; room = g.room; fits = omega arith }
+pub countable : (g : declared.Running) (w bytes out : List ℕ) → Goes g w out → g.offset < 2 ^ 64 → length bytes ≤ 18446744073709551615 - g.offset → Runs g w bytes out
+countable g w bytes out a small h = record { going = a.going; room = a.room; fits = omega arith }
 
 -- ---- the cases
 pub starts_asks : (r : Replay) (w out : List ℕ) → r ≡ Start → Ready r w → line_room ≤ length out → Begins w out
 starts_asks r w out e ready room = record { words = subst (λ (s : Replay). Ready s w) e ready; room = room }
 
-pub goes_asks : (r : Replay) (k : Kind) (c o n : ℕ) (w out : List ℕ) → r ≡ Running k c o n → Ready r w → line_room ≤ length out → Goes k c o n w out
-goes_asks r k c o n w out e ready room = record { going = subst (λ (s : Replay). Ready s w) e ready; room = room }
+pub goes_asks : (r : Replay) (g : declared.Running) (w out : List ℕ) → r ≡ Running g → Ready r w → line_room ≤ length out → Goes g w out
+goes_asks r g w out e ready room = record { going = subst (λ (s : Replay). Ready s w) e ready; room = room }
 
 pub from_start : (r s : Replay) (w v bytes written : List ℕ) (last : Bool) (used : ℕ) → r ≡ Start → Feeds Start w bytes last s v used written → Feeds r w bytes last s v used written
 from_start r s w v bytes written last used e f = subst (λ (q : Replay). Feeds q w bytes last s v used written) (sym e) f
 
-pub from_running : (r s : Replay) (k : Kind) (c o n : ℕ) (w v bytes written : List ℕ) (last : Bool) (used : ℕ) → r ≡ Running k c o n
-    → Feeds (Running k c o n) w bytes last s v used written → Feeds r w bytes last s v used written
-from_running r s k c o n w v bytes written last used e f = subst (λ (q : Replay). Feeds q w bytes last s v used written) (sym e) f
+pub from_running : (r s : Replay) (g : declared.Running) (w v bytes written : List ℕ) (last : Bool) (used : ℕ) → r ≡ Running g
+    → Feeds (Running g) w bytes last s v used written → Feeds r w bytes last s v used written
+from_running r s g w v bytes written last used e f = subst (λ (q : Replay). Feeds q w bytes last s v used written) (sym e) f
 
 nothing_more : (w bytes : List ℕ) (last : Bool) → Feeds Ended w bytes last Ended w 0 []
 unfolding pending

@@ -11,7 +11,7 @@ needed last = cond last 0 16
 -- the words that a feed from r to s may change: those of the cache that it goes on with, or of the one that it makes
 abbrev pub changeable : Replay → Replay → ℕ
 changeable Start s = cache_words s
-changeable (Running k c o n) s = cache_words (Running k c o n)
+changeable (Running r) s = cache_words (Running r)
 changeable Ended s = 0
 
 -- THE CONTRACT of a feed. The replay r with the area w was given bytes of the input, after which no more follow where `last` is true; it is s with the area v

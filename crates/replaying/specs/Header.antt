@@ -1,9 +1,9 @@
 -- What the first bytes of the input say: the kind byte and c. That the program's definition says the same is a law (proofs/Headers). Assumes nothing.
-use Rattle.std.specs.Prelude.{◌≡◌, cond, List, [], ◌∷◌, ℕ, ◌+◌, ◌≤◌, ltb, eqb, length, drop}
-use Rattle.numbers.specs.declared.Frame.{Frame}
-use Rattle.numbers.specs.declared.Frame.TheVariants.{Value, Faulty}
-use Rattle.numbers.specs.Reading.{frame_of}
-use Rattle.trace.specs.Reading.{fault_number, fault_place}
+use Rattle.std.specs.Prelude.{◌≡◌, cond, List, [], ◌∷◌, ℕ, ◌+◌, ◌≤◌, ltb, eqb, length, drop, Result, Ok, Err}
+use Rattle.refusals.specs.declared.Refusal.{Refusal}
+use Rattle.refusals.specs.declared.Refusal.TheVariants as refusals
+use Rattle.numbers.specs.Reading.{Number, frame_of}
+use Rattle.trace.specs.Reading.{fault_refusal, fault_place}
 use Rattle.rules.specs.Program.{max_replayed}
 use Rattle.rules.specs.Public.{words_needed}
 use Rattle.rules.specs.declared.Kind.{Kind}
@@ -11,19 +11,23 @@ use Rattle.rules.specs.declared.Kind.TheVariants.{Arc, Car}
 use Rattle.contracts.specs.Policy.{policy_of, state_of}
 use Rattle.contracts.specs.Inner.{Good}
 use Rattle.replaying.specs.declared.Header.{Header}
-use Rattle.replaying.specs.declared.Header.TheVariants.{Cache, Stop}
+use Rattle.replaying.specs.declared.Stop.{Stop}
 use Rattle.replaying.specs.Pending.{area_words}
 
+-- a refusal at an offset
+abbrev pub stop : Refusal → ℕ → Stop
+stop r o = record { refusal = r; offset = o }
+
 -- "1 CAPACITY .. (program: c > 256)" (RULES 3.1), "for a bad c, 1" (RULES 9.2)
-abbrev pub sized : Kind → Frame → Header
-sized k (Value c used) = cond (ltb max_replayed c) (Stop 1 1) (Cache k c (1 + used))
-sized k (Faulty f) = Stop (fault_number f) (1 + fault_place 0 f)
+abbrev pub sized : Kind → Number → Result Header Stop
+sized k (Ok n) = cond (ltb max_replayed n.value) (Err (stop refusals.Capacity 1)) (Ok (record { kind = k; c = n.value; used = 1 + n.used }))
+sized k (Err f) = Err (stop (fault_refusal f) (1 + fault_place 0 f))
 
 -- "a kind byte (1 ARC, 2 CAR)" (RULES 9.1), "4 OPERATION .. program: kind byte not 1 or 2" (RULES 3.4), "Empty input:
 -- `stop 5 at 0`." (RULES 9.3)
-unfoldable pub header_of : List ℕ → Header
-header_of [] = Stop 5 0
-header_of (b ∷ bs) = cond (eqb b 1) (sized Arc (frame_of bs)) (cond (eqb b 2) (sized Car (frame_of bs)) (Stop 4 0))
+unfoldable pub header_of : List ℕ → Result Header Stop
+header_of [] = Err (stop refusals.Number 0)
+header_of (b ∷ bs) = cond (eqb b 1) (sized Arc (frame_of bs)) (cond (eqb b 2) (sized Car (frame_of bs)) (Err (stop refusals.Operation 0)))
 
 -- a capacity of the program, and an area for it
 pub record Sizes (c : ℕ) (w : List ℕ) : Type 0 where

@@ -6,25 +6,30 @@ ghost use Rattle.std.specs.Prelude.{◌≡◌, ◌≤◌, length, take};
 ghost use Rattle.numbers.specs.Reading.{frame_of};
 ghost use Rattle.lines.specs.Lines.{line_room};
 ghost use Rattle.replaying.specs.Pending.{area_words, Ready};
-ghost use Rattle.replaying.specs.Header.{sized, header_of, Sizes, Fresh};
+ghost use Rattle.replaying.specs.Header.{stop, sized, header_of, Sizes, Fresh};
 ghost use Rattle.replaying.specs.Feeding.{needed, Feeds, Wrote, Turns};
 ghost use Rattle.replaying.specs.Asked.{Begins, Goes, Runs};
 
-use numbers::Frame;
+use numbers::Numeral;
+use refusals::Refusal;
 use rules::Kind;
 use trace::{Cursor, Found};
 
-// Where a replay stands: nothing was read; operations are run on a cache of a kind and of a capacity, of which `done` are done and the
-// next stands at the input's byte `offset`; the last line was told.
+// A replay that runs operations on a cache of a kind and of a capacity: `done` are done, and the next stands at the input's byte
+// `offset`.
+#[derive(Clone, Copy)]
+pub struct Running {
+    pub kind: Kind,
+    pub c: usize,
+    pub offset: u64,
+    pub done: u64,
+}
+
+// Where a replay stands: nothing was read; operations are run; the last line was told.
 #[derive(Clone, Copy)]
 pub enum Replay {
     Start,
-    Running {
-        kind: Kind,
-        c: usize,
-        offset: u64,
-        done: u64,
-    },
+    Running(Running),
     Ended,
 }
 
@@ -45,11 +50,19 @@ pub struct Turned {
     pub written: usize,
 }
 
-// What the first bytes of the input say: the cache to replay on, with how many bytes said it; or a refusal with its offset.
+// What the first bytes of the input say: the cache to replay on, and how many bytes said it.
 #[derive(Clone, Copy)]
-pub enum Header {
-    Cache { kind: Kind, c: usize, used: usize },
-    Stop { refusal: u8, offset: u64 },
+pub struct Header {
+    pub kind: Kind,
+    pub c: usize,
+    pub used: usize,
+}
+
+// Why they say none: a refusal, with its offset.
+#[derive(Clone, Copy)]
+pub struct Stop {
+    pub refusal: Refusal,
+    pub offset: u64,
 }
 
 // A replay of which nothing was read.
@@ -67,48 +80,48 @@ fn bytes_needed(last: bool) -> usize
 }
 
 // A bad capacity, which stands behind the kind byte.
-fn refuse_size(refusal: u8) -> Header
-    ensures { result ≡ Header.Stop refusal 1 }
+fn refuse_size(refusal: Refusal) -> Stop
+    ensures { result ≡ stop refusal 1 }
 {
-    Header::Stop { refusal, offset: 1 }
+    Stop { refusal, offset: 1 }
 }
 
 // The capacity, behind the kind byte.
-fn read_size(kind: Kind, rest: &[u8]) -> Header
+fn read_size(kind: Kind, rest: &[u8]) -> Result<Header, Stop>
     ensures { result ≡ sized kind (frame_of rest.now) }
 {
     let number = numbers::read_frame(rest);
-    let Frame::Value { value, used } = number else {
-        return refuse_size(5);
+    let Ok(Numeral { value, used }) = number else {
+        return Err(refuse_size(Refusal::Number));
     };
     if 256 < value {
-        return refuse_size(1);
+        return Err(refuse_size(Refusal::Capacity));
     }
-    Header::Cache {
+    Ok(Header {
         kind,
         c: value as usize,
         used: 1 + used,
-    }
+    })
 }
 
 // The kind byte and the capacity.
-fn read_header(bytes: &[u8]) -> Header
+fn read_header(bytes: &[u8]) -> Result<Header, Stop>
     ensures { result ≡ header_of bytes.now }
 {
     if bytes.len() == 0 {
-        return Header::Stop {
-            refusal: 5,
+        return Err(Stop {
+            refusal: Refusal::Number,
             offset: 0,
-        };
+        });
     }
     let kind = bytes[0];
     match kind {
         1 => read_size(Kind::Arc, &bytes[1..]),
         2 => read_size(Kind::Car, &bytes[1..]),
-        _ => Header::Stop {
-            refusal: 4,
+        _ => Err(Stop {
+            refusal: Refusal::Operation,
             offset: 0,
-        },
+        }),
     }
 }
 
@@ -118,7 +131,7 @@ fn make(area: &mut [u64], kind: Kind, c: usize)
     ensures { Fresh kind c area.old area.new }
 {
     let number = contracts::number(kind);
-    empty_cache::new(area, number, c as u64);
+    empty_cache::new(area, number, c as u64).unwrap();
 }
 
 // The first bytes of the input.
@@ -137,21 +150,22 @@ fn begin(area: &mut [u64], bytes: &[u8], last: bool, out: &mut [u8]) -> Fed
     }
     let header = read_header(bytes);
     match header {
-        Header::Cache { kind, c, used } => {
-            make(area, kind, c);
+        Ok(cache) => {
+            make(area, cache.kind, cache.c);
             Fed {
-                replay: Replay::Running {
-                    kind,
-                    c,
-                    offset: used as u64,
+                replay: Replay::Running(Running {
+                    kind: cache.kind,
+                    c: cache.c,
+                    offset: cache.used as u64,
                     done: 0,
-                },
-                used,
+                }),
+                used: cache.used,
                 written: 0,
             }
         }
-        Header::Stop { refusal, offset } => {
-            let written = lines::put_stop(out, 0, refusal, offset);
+        Err(stop) => {
+            let number = stop.refusal.number();
+            let written = lines::put_stop(out, 0, number, stop.offset);
             Fed {
                 replay: Replay::Ended,
                 used: 0,
@@ -162,46 +176,40 @@ fn begin(area: &mut [u64], bytes: &[u8], last: bool, out: &mut [u8]) -> Fed
 }
 
 // Operations, one after the other, while one can be run and there is room for its line.
-fn run(
-    kind: Kind,
-    c: usize,
-    offset: u64,
-    done: u64,
-    area: &mut [u64],
-    bytes: &[u8],
-    last: bool,
-    out: &mut [u8],
-) -> Fed
-    requires { Runs kind c offset done area.old bytes.now out.old }
-    ensures feeds { Feeds (Replay.Running kind c offset done) area.old bytes.now last result.replay area.new result.used (take result.written out.new) }
+fn run(r: Running, area: &mut [u64], bytes: &[u8], last: bool, out: &mut [u8]) -> Fed
+    requires { Runs r area.old bytes.now out.old }
+    ensures feeds { Feeds (Replay.Running r) area.old bytes.now last result.replay area.new result.used (take result.written out.new) }
     ensures wrote { Wrote result.written out.old out.new }
 {
+    let kind = r.kind;
+    let c = r.c;
+    let offset = r.offset;
     let need = bytes_needed(last);
     let mut at: usize = 0;
-    let mut n = done;
+    let mut n = r.done;
     let mut put: usize = 0;
     loop {
         let here = offset + at as u64;
         if bytes.len() - at < need {
             return Fed {
-                replay: Replay::Running {
+                replay: Replay::Running(Running {
                     kind,
                     c,
                     offset: here,
                     done: n,
-                },
+                }),
                 used: at,
                 written: put,
             };
         }
         if out.len() - put < 43 {
             return Fed {
-                replay: Replay::Running {
+                replay: Replay::Running(Running {
                     kind,
                     c,
                     offset: here,
                     done: n,
-                },
+                }),
                 used: at,
                 written: put,
             };
@@ -212,7 +220,7 @@ fn run(
         match found {
             Found::Read(op) => {
                 let reply = operations::operate(area, c, kind, op);
-                put = lines::put_reply(out, put, reply);
+                put = lines::put_reply(out, put, Ok(reply));
                 at = step.cursor.at;
                 n += 1;
             }
@@ -225,9 +233,10 @@ fn run(
                 };
             }
             Found::Refused {
-                number,
+                refusal,
                 offset: place,
             } => {
+                let number = refusal.number();
                 let written = lines::put_stop(out, put, number, offset + place as u64);
                 return Fed {
                     replay: Replay::Ended,
@@ -240,21 +249,12 @@ fn run(
 }
 
 // The same for any offset: an input past 2^64 bytes, which no machine reads, ends without a last line.
-fn go_on(
-    kind: Kind,
-    c: usize,
-    offset: u64,
-    done: u64,
-    area: &mut [u64],
-    bytes: &[u8],
-    last: bool,
-    out: &mut [u8],
-) -> Fed
-    requires { Goes kind c offset done area.old out.old }
-    ensures feeds { Feeds (Replay.Running kind c offset done) area.old bytes.now last result.replay area.new result.used (take result.written out.new) }
+fn go_on(r: Running, area: &mut [u64], bytes: &[u8], last: bool, out: &mut [u8]) -> Fed
+    requires { Goes r area.old out.old }
+    ensures feeds { Feeds (Replay.Running r) area.old bytes.now last result.replay area.new result.used (take result.written out.new) }
     ensures wrote { Wrote result.written out.old out.new }
 {
-    let countable = u64::MAX - offset;
+    let countable = u64::MAX - r.offset;
     let given = bytes.len() as u64;
     if countable < given {
         return Fed {
@@ -263,7 +263,7 @@ fn go_on(
             written: 0,
         };
     }
-    run(kind, c, offset, done, area, bytes, last, out)
+    run(r, area, bytes, last, out)
 }
 
 // Goes on with the replay r, whose cache lies in the area, on the next bytes of the input: those that the feed before did not use up, and
@@ -276,12 +276,7 @@ pub fn feed(r: Replay, area: &mut [u64], bytes: &[u8], last: bool, out: &mut [u8
 {
     match r {
         Replay::Start => begin(area, bytes, last, out),
-        Replay::Running {
-            kind,
-            c,
-            offset,
-            done,
-        } => go_on(kind, c, offset, done, area, bytes, last, out),
+        Replay::Running(running) => go_on(running, area, bytes, last, out),
         Replay::Ended => Fed {
             replay: Replay::Ended,
             used: 0,

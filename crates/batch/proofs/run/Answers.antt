@@ -1,15 +1,13 @@
 use native.Mathlib.Omega.{arith}
+use borrow.Author.Rules.{rules}
 use Rattle.batch.proofs.Turning.{begins, laws}
 use Rattle.batch.proofs.run.Goals as goal
 
 pub new-cursor-requires : goal.new-cursor-requires
 new-cursor-requires c = search laws
 
-pub none-counts-requires : goal.none-counts-requires
-none-counts-requires c = search laws
-
 pub loop-op-init : goal.loop-op-init
-loop-op-init c = begins _ _ _ _ _ _ (omega arith) c.requires c.new-cursor.ensures c.none-counts.ensures
+loop-op-init c = begins _ _ _ _ _ _ (omega arith) c.requires c.new-cursor.ensures (search rules)
 
 pub slice_bounds-next-count : goal.slice_bounds-next-count
 slice_bounds-next-count c = search laws

@@ -8,8 +8,8 @@ open-requires c = search laws
 pub run-requires : goal.run-requires
 run-requires c = search laws
 
-pub returns-in-Cache : goal.returns-in-Cache
-returns-in-Cache c = search laws
+pub returns-in-Ok : goal.returns-in-Ok
+returns-in-Ok c = search laws
 
-pub returns-in-Refused : goal.returns-in-Refused
-returns-in-Refused c = search laws
+pub returns-in-Err : goal.returns-in-Err
+returns-in-Err c = search laws

@@ -14,14 +14,10 @@ put_line-requires c = search texts
 pub put_word-requires : goal.put_word-requires
 put_word-requires c = search texts
 
-pub returns-in-Frame : goal.returns-in-Frame
+pub returns-in-Some : goal.returns-in-Some
 unfolding text_of
-returns-in-Frame c = search (told_as gone_is, texts)
+returns-in-Some c = search (told_as gone_is, texts)
 
-pub returns-in-Absent : goal.returns-in-Absent
+pub returns-in-None : goal.returns-in-None
 unfolding text_of
-returns-in-Absent c = search (told_as gone_is, texts)
-
-pub returns-in-Refused : goal.returns-in-Refused
-unfolding text_of
-returns-in-Refused c = search (told_as gone_is, texts)
+returns-in-None c = search (told_as gone_is, texts)

@@ -14,14 +14,10 @@ put_line-requires c = search texts
 pub put_word-requires : goal.put_word-requires
 put_word-requires c = search texts
 
-pub returns-in-Hit : goal.returns-in-Hit
+pub returns-in-Some : goal.returns-in-Some
 unfolding text_of
-returns-in-Hit c = search (told_as got_is, texts)
+returns-in-Some c = search (told_as got_is, texts)
 
-pub returns-in-Miss : goal.returns-in-Miss
+pub returns-in-None : goal.returns-in-None
 unfolding text_of
-returns-in-Miss c = search (told_as got_is, texts)
-
-pub returns-in-Refused : goal.returns-in-Refused
-unfolding text_of
-returns-in-Refused c = search (told_as got_is, texts)
+returns-in-None c = search (told_as got_is, texts)

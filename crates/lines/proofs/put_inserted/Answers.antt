@@ -35,7 +35,3 @@ returns-in-Old c = search (told_as inserted_is, texts)
 pub returns-in-None : goal.returns-in-None
 unfolding text_of
 returns-in-None c = search (told_as inserted_is, texts)
-
-pub returns-in-Refused : goal.returns-in-Refused
-unfolding text_of
-returns-in-Refused c = search (told_as inserted_is, texts)

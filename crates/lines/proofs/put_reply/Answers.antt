@@ -1,5 +1,5 @@
 -- `lines::put_reply` meets its contract, case by case. Assumes nothing.
-use Rattle.answers.specs.Answers.{reply_is}
+use Rattle.answers.specs.Answers.{told, reply_is}
 use Rattle.lines.proofs.Texts.{told_as}
 use Rattle.rules.specs.Program.{text_of}
 use Rattle.lines.proofs.Laws.{texts}
@@ -20,22 +20,26 @@ put_word-requires c = search texts
 pub put_seen-requires : goal.put_seen-requires
 put_seen-requires c = search texts
 
-pub returns-in-Got : goal.returns-in-Got
+pub returns-in-Ok-Got : goal.returns-in-Ok-Got
 unfolding text_of
-returns-in-Got c = search (told_as reply_is, texts)
+returns-in-Ok-Got c = search (told_as (told reply_is), texts)
 
-pub returns-in-Inserted : goal.returns-in-Inserted
+pub returns-in-Ok-Inserted : goal.returns-in-Ok-Inserted
 unfolding text_of
-returns-in-Inserted c = search (told_as reply_is, texts)
+returns-in-Ok-Inserted c = search (told_as (told reply_is), texts)
 
-pub returns-in-Gone : goal.returns-in-Gone
+pub returns-in-Ok-Gone : goal.returns-in-Ok-Gone
 unfolding text_of
-returns-in-Gone c = search (told_as reply_is, texts)
+returns-in-Ok-Gone c = search (told_as (told reply_is), texts)
 
-pub returns-in-Cleared : goal.returns-in-Cleared
+pub returns-in-Ok-Cleared : goal.returns-in-Ok-Cleared
 unfolding text_of
-returns-in-Cleared c = search (told_as reply_is, texts)
+returns-in-Ok-Cleared c = search (told_as (told reply_is), texts)
 
-pub returns-in-Seen : goal.returns-in-Seen
+pub returns-in-Ok-Seen : goal.returns-in-Ok-Seen
 unfolding text_of
-returns-in-Seen c = search (told_as reply_is, texts)
+returns-in-Ok-Seen c = search (told_as (told reply_is), texts)
+
+pub returns-in-Err : goal.returns-in-Err
+unfolding text_of
+returns-in-Err c = search (told_as (told reply_is), texts)

@@ -1,29 +1,6 @@
-use Rattle.lines.proofs.Laws.{laws}
+-- `lines::put_word` meets its contract. Assumes nothing.
+use Rattle.lines.proofs.Copying.{copied}
 use Rattle.lines.proofs.put_word.Goals as goal
 
-pub loop-i-init : goal.loop-i-init
-loop-i-init c = search laws
-
-pub bounds-word-i : goal.bounds-word-i
-bounds-word-i c = search laws
-
-pub overflow_add-out : goal.overflow_add-out
-overflow_add-out c = search laws
-
-pub bounds-out-at : goal.bounds-out-at
-bounds-out-at c = search laws
-
-pub overflow_add-i : goal.overflow_add-i
-overflow_add-i c = search laws
-
-pub loop-i-smaller : goal.loop-i-smaller
-loop-i-smaller c = search laws
-
-pub loop-i-preserved : goal.loop-i-preserved
-loop-i-preserved c = search laws
-
-pub overflow_add-result : goal.overflow_add-result
-overflow_add-result c = search laws
-
 pub returns : goal.returns
-returns c = search laws
+returns c = copied _ _ _ _ c.copy_from_slice.ensures.after

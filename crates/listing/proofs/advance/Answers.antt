@@ -2,17 +2,11 @@
 use Rattle.listing.proofs.Laws.{laws}
 use Rattle.listing.proofs.advance.Goals as goal
 
-pub capacity-c-requires : goal.capacity-c-requires
-capacity-c-requires c = search laws
-
 pub page-page-requires : goal.page-page-requires
 page-page-requires c = search laws
 
 pub frame-frame-requires : goal.frame-frame-requires
 frame-frame-requires c = search laws
-
-pub next_of-next-requires : goal.next_of-next-requires
-next_of-next-requires c = search laws
 
 pub returns : goal.returns
 returns c = search laws

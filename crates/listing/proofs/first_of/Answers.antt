@@ -2,15 +2,6 @@
 use Rattle.listing.proofs.Laws.{laws}
 use Rattle.listing.proofs.first_of.Goals as goal
 
-pub start-e-requires : goal.start-e-requires
-start-e-requires c = search laws
-
-pub onward-requires : goal.onward-requires
-onward-requires c = search laws
-
-pub taken_from-requires : goal.taken_from-requires
-taken_from-requires c = search laws
-
 pub returns-in-Arc : goal.returns-in-Arc
 returns-in-Arc c = search laws
 

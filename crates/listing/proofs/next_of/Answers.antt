@@ -5,9 +5,6 @@ use Rattle.listing.proofs.next_of.Goals as goal
 pub next-n-requires : goal.next-n-requires
 next-n-requires c = search laws
 
-pub onward-requires : goal.onward-requires
-onward-requires c = search laws
-
 pub overflow_add-k : goal.overflow_add-k
 overflow_add-k c = search laws
 

@@ -17,8 +17,8 @@ make-requires c = search laws
 pub put_stop-written-requires : goal.put_stop-written-requires
 put_stop-written-requires c = search laws
 
-pub returns-in-Cache : goal.returns-in-Cache
-returns-in-Cache c = search laws
+pub returns-in-Ok : goal.returns-in-Ok
+returns-in-Ok c = search laws
 
-pub returns-in-Stop : goal.returns-in-Stop
-returns-in-Stop c = search laws
+pub returns-in-Err : goal.returns-in-Err
+returns-in-Err c = search laws

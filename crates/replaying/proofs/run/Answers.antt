@@ -1,5 +1,5 @@
 use borrow.Author.Rules.{rules}
-use Rattle.replaying.proofs.Running.{laws, ends, stops, wrote_last}
+use Rattle.replaying.proofs.Operating.{laws, ends, stops, wrote_last}
 use Rattle.replaying.proofs.run.Goals as goal
 
 pub bytes_needed-need-requires : goal.bytes_needed-need-requires
@@ -55,7 +55,7 @@ put_end-written-requires c = search laws
 
 pub returns-in-End : goal.returns-in-End
 returns-in-End c = record {
-  feeds = ends _ _ _ _ _ _ _ _ _ _ _ _ _ _ c.loop-at.invariant _ c.next-step.ensures c.if-bytes-at.false (search rules) _ _ c.put_end-written.ensures;
+  feeds = ends _ _ _ _ _ _ _ _ _ _ _ c.loop-at.invariant _ c.next-step.ensures c.if-bytes-at.false (search rules) _ _ c.put_end-written.ensures;
   wrote = search wrote_last;
 }
 
@@ -67,6 +67,6 @@ put_stop-written-requires c = search laws
 
 pub returns-in-Refused : goal.returns-in-Refused
 returns-in-Refused c = record {
-  feeds = stops _ _ _ _ _ _ _ _ _ _ _ _ _ _ c.loop-at.invariant _ c.next-step.ensures c.if-bytes-at.false _ _ (search rules) _ _ c.put_stop-written.ensures;
+  feeds = stops _ _ _ _ _ _ _ _ _ _ _ c.loop-at.invariant _ c.next-step.ensures c.if-bytes-at.false _ _ _ (search rules) c.number-number.ensures _ _ c.put_stop-written.ensures;
   wrote = search wrote_last;
 }

@@ -13,11 +13,10 @@ use lib.ListN.{length, take, drop, length-drop}
 use lib.Seq.{drop-drop, drop-append-le}
 use borrow.Author.Rules.{rules}
 use borrow.Author.Rules.{part_to_end}
-use Rattle.numbers.specs.Reading.{page_of, frame_of}
-use Rattle.numbers.specs.declared.Number.{Number}
-use Rattle.numbers.specs.declared.Number.TheVariants.{Value, Faulty}
-use Rattle.numbers.specs.declared.Frame.{Frame}
-use Rattle.numbers.specs.declared.Frame.TheVariants.{Value as FrameValue, Faulty as FrameFaulty}
+use Rattle.std.specs.Prelude.{Ok, Err}
+use Rattle.refusals.specs.declared.Refusal.{Refusal}
+use Rattle.refusals.specs.Refusals.{number_of}
+use Rattle.numbers.specs.Reading.{Number, page_of, frame_of}
 use Rattle.trace.specs.Reading.{Parsed, whole, refused, with_page, with_frame, with_both, operation_of}
 use Rattle.trace.specs.Steps.{stepped, step_at}
 use Rattle.trace.specs.declared.Operation.{Operation}
@@ -35,9 +34,9 @@ use Rattle.rules.specs.Public.{words_needed}
 use Rattle.answers.specs.Answers.{reply_is}
 use Rattle.answers.specs.declared.Reply.{Reply}
 use Rattle.lines.specs.Lines.{line_room, LineRoom, Put}
-use Rattle.rules.specs.declared.Kind.{Kind}
 use Rattle.contracts.specs.Policy.{Policy, policy_of, state_of}
 use Rattle.contracts.specs.Inner.{Good, Did}
+use Rattle.replaying.specs.declared.Running as declared
 use Rattle.replaying.specs.declared.Replay.TheVariants.{Running, Ended}
 use Rattle.replaying.specs.Pending.{told_after, pending}
 use Rattle.replaying.specs.Feeding.{needed, Feeds, Wrote}
@@ -54,19 +53,19 @@ operation_given false b bs rest h e = operation_prefix b bs rest (omega arith)
 -- a refusal's offset lies within the bytes
 abbrev Placed : ℕ → Parsed → Type 0
 Placed n (whole op used) = Unit {0}
-Placed n (refused number place) = place ≤ n
+Placed n (refused r place) = place ≤ n
 
 placed_page : (n : ℕ) (op : ℕ → Operation) (r : Number) → Placed n (with_page op r)
-placed_page n op (Value page used) = tt
-placed_page n op (Faulty f) = omega arith
+placed_page n op (Ok page) = tt
+placed_page n op (Err f) = omega arith
 
 placed_both : (n : ℕ) (bs : List ℕ) (r : Number) → Placed n (with_both bs r)
-placed_both n bs (Value page used) = by (frame_of (drop used bs))
+placed_both n bs (Ok page) = by (frame_of (drop page.used bs))
   where
-    by : (f : Frame) → Placed n (with_frame page (1 + used) f)
-    by (FrameValue frame more) = tt
-    by (FrameFaulty f) = omega arith
-placed_both n bs (Faulty f) = omega arith
+    by : (f : Number) → Placed n (with_frame page.value (1 + page.used) f)
+    by (Ok frame) = tt
+    by (Err f) = omega arith
+placed_both n bs (Err f) = omega arith
 
 either : (P : Parsed → Type 0) (x : Bool) (a b : Parsed) → P a → P b → P (cond x a b)
 either P true a b p q = p
@@ -97,10 +96,10 @@ module _ {S : Type 0} (does : Call → S → Done S) (s : S) where
     pub is : telling o n (l ++ rest) ≡ text_of (does (call_of op) s).answer ++ told_after (n + 1) (batch does (o + (c - at)) (drop (c - at) l ++ rest) (does (call_of op) s).state)
 
   -- a refusal, whose offset lies within the bytes
-  pub record Halted (at o n : ℕ) (l rest : List ℕ) (r q : ℕ) : Type 0 where
+  pub record Halted (at o n : ℕ) (l rest : List ℕ) (r : Refusal) (q : ℕ) : Type 0 where
     pub past : at ≤ q
     pub inside : q ≤ at + length l
-    pub is : telling o n (l ++ rest) ≡ text_of (Stopped r (o + (q - at)))
+    pub is : telling o n (l ++ rest) ≡ text_of (Stopped (number_of r) (o + (q - at)))
 
   -- what a cursor at the place `at` found at the start of the bytes l, with their offset o; it is at the place c then
   abbrev pub Found_is : ℕ → ℕ → ℕ → ℕ → List ℕ → List ℕ → Found → Type 0
@@ -134,7 +133,7 @@ module _ {S : Type 0} (does : Call → S → Done S) (s : S) where
         is =
             ap (told_after n) (run_refused does o b (bs ++ rest) s r place d)
             ∙ told_stop n r (o + place) s (numbered b bs r place e)
-            ∙ ap (λ (m : ℕ). text_of (Stopped r (o + m))) (sym k);
+            ∙ ap (λ (m : ℕ). text_of (Stopped (number_of r) (o + m))) (sym k);
       }
 
   pub step_is : (last : Bool) (at o n : ℕ) (l rest : List ℕ) → needed last ≤ length l → (last ≡ true → rest ≡ []) → Step_is at o n l rest (step_at at l)
@@ -145,24 +144,28 @@ module _ {S : Type 0} (does : Call → S → Done S) (s : S) where
 
 -- ---- the loop's invariant: the bytes before the place `at` are used up, n operations were done, and the lines of those since the start of the loop
 -- stand in the buffer before the place `put`
-pub record RunTo (k : Kind) (c o m : ℕ) (w bytes : List ℕ) (last : Bool) (before : List ℕ) (need : ℕ) (v out : List ℕ) (at n put : ℕ) : Type 0 where
+-- the replay g, at bytes later, with n operations done
+abbrev pub on_from : declared.Running → ℕ → ℕ → declared.Running
+on_from g at n = record { kind = g.kind; c = g.c; offset = g.offset + at; done = n }
+
+pub record RunTo (g : declared.Running) (w bytes : List ℕ) (last : Bool) (before : List ℕ) (need : ℕ) (v out : List ℕ) (at n put : ℕ) : Type 0 where
   pub needs : need ≡ needed last
-  pub fits : o + length bytes < 2 ^ 64
+  pub fits : g.offset + length bytes < 2 ^ 64
   pub room : line_room ≤ length out
   pub inside : at ≤ length bytes
-  pub few : n ≤ o + at
-  pub good : Good (policy_of k) c v
+  pub few : n ≤ g.offset + at
+  pub good : Good (policy_of g.kind) g.c v
   pub filled : put ≤ length out
   pub words : length v ≡ length w
-  pub past : drop (words_needed c) v ≡ drop (words_needed c) w
+  pub past : drop (words_needed g.c) v ≡ drop (words_needed g.c) w
   pub size : length out ≡ length before
   pub none : at ≡ 0 → put ≡ 0
   pub told : (rest : List ℕ) → (last ≡ true → rest ≡ [])
-      → pending (Running k c o m) w (bytes ++ rest) ≡ take put out ++ pending (Running k c (o + at) n) v (drop at bytes ++ rest)
+      → pending (Running g) w (bytes ++ rest) ≡ take put out ++ pending (Running (on_from g at n)) v (drop at bytes ++ rest)
 
-pub starts : (k : Kind) (c o m : ℕ) (w bytes : List ℕ) (last : Bool) (out : List ℕ) (need : ℕ) → Runs k c o m w bytes out → need ≡ needed last
-    → RunTo k c o m w bytes last out need w out 0 m 0
-starts k c o m w bytes last out need r e =
+pub starts : (g : declared.Running) (w bytes : List ℕ) (last : Bool) (out : List ℕ) (need : ℕ) → Runs g w bytes out → need ≡ needed last
+    → RunTo g w bytes last out need w out 0 g.done 0
+starts g w bytes last out need r e =
     record {
       needs = e;
       fits = r.fits;
@@ -175,11 +178,11 @@ starts k c o m w bytes last out need r e =
       past = refl;
       size = refl;
       none = λ z. refl;
-      told = λ rest end. rw (add-zero o) refl;
+      told = λ rest end. rw (add-zero g.offset) refl;
     }
 
-module _ (k : Kind) (c o m : ℕ) (w bytes : List ℕ) (last : Bool) (before : List ℕ) (need : ℕ) (v out : List ℕ) (at n put : ℕ)
-    (i : RunTo k c o m w bytes last before need v out at n put) where
+module _ (g : declared.Running) (w bytes : List ℕ) (last : Bool) (before : List ℕ) (need : ℕ) (v out : List ℕ) (at n put : ℕ)
+    (i : RunTo g w bytes last before need v out at n put) where
   pub at_inside : at ≤ length bytes
   at_inside = i.inside
 
@@ -192,14 +195,14 @@ module _ (k : Kind) (c o m : ℕ) (w bytes : List ℕ) (last : Bool) (before : L
   pub same_size : length out ≡ length before
   same_size = i.size
 
-  pub offset_fits : Fits w64 (o + at)
+  pub offset_fits : Fits w64 (g.offset + at)
   offset_fits = omega (arith, i.fits, i.inside)
 
   pub wrote_so_far : Wrote put before out
   wrote_so_far = record { there = i.filled; size = i.size }
 
   -- ---- where the loop pauses: for more bytes, or for more room
-  paused : (needed last ≤ length bytes → 1 ≤ at) → Feeds (Running k c o m) w bytes last (Running k c (o + at) n) v at (take put out)
+  paused : (needed last ≤ length bytes → 1 ≤ at) → Feeds (Running g) w bytes last (Running (on_from g at n)) v at (take put out)
   paused h =
       record {
         inside = i.inside;
@@ -210,10 +213,10 @@ module _ (k : Kind) (c o m : ℕ) (w bytes : List ℕ) (last : Bool) (before : L
         progress = λ e s. h e;
       }
 
-  pub pauses_short : length bytes - at < need → Feeds (Running k c o m) w bytes last (Running k c (o + at) n) v at (take put out)
+  pub pauses_short : length bytes - at < need → Feeds (Running g) w bytes last (Running (on_from g at n)) v at (take put out)
   pauses_short h = paused (λ e. omega (arith, i.needs))
 
-  pub pauses_full : length out - put < 43 → Feeds (Running k c o m) w bytes last (Running k c (o + at) n) v at (take put out)
+  pub pauses_full : length out - put < 43 → Feeds (Running g) w bytes last (Running (on_from g at n)) v at (take put out)
   pauses_full h = paused (λ e. by at refl)
     where
       by : (a : ℕ) → at ≡ a → 1 ≤ at
@@ -226,17 +229,17 @@ module _ (k : Kind) (c o m : ℕ) (w bytes : List ℕ) (last : Bool) (before : L
   -- ---- the cursor found something
   module _ (x : Step) (e : x ≡ step_at at (part bytes at)) (there : need ≤ length bytes - at) where
     found : (f : Found) → x.found ≡ f → (rest : List ℕ) → (last ≡ true → rest ≡ [])
-        → Found_is (policy_of k).does (state_of (policy_of k) c v) at (o + at) n x.cursor.at (drop at bytes) rest f
+        → Found_is (policy_of g.kind).does (state_of (policy_of g.kind) g.c v) at (g.offset + at) n x.cursor.at (drop at bytes) rest f
     found f is rest end =
         let q : step_at at (drop at bytes) ≡ x = ap (step_at at) (sym (part_to_end bytes at)) ∙ sym e in
-        let P : Policy = policy_of k in
-        subst (Found_is P.does (state_of P c v) at (o + at) n x.cursor.at (drop at bytes) rest) is
-        (subst (λ (y : Step). Found_is P.does (state_of P c v) at (o + at) n y.cursor.at (drop at bytes) rest y.found) q
-        (step_is P.does (state_of P c v) last at (o + at) n (drop at bytes) rest (omega (arith, i.needs, length-drop at bytes)) end))
+        let P : Policy = policy_of g.kind in
+        subst (Found_is P.does (state_of P g.c v) at (g.offset + at) n x.cursor.at (drop at bytes) rest) is
+        (subst (λ (y : Step). Found_is P.does (state_of P g.c v) at (g.offset + at) n y.cursor.at (drop at bytes) rest y.found) q
+        (step_is P.does (state_of P g.c v) last at (g.offset + at) n (drop at bytes) rest (omega (arith, i.needs, length-drop at bytes)) end))
 
     -- one more operation
     module _ (op : Operation) (is : x.found ≡ Read op) where
-      moved : Moved (policy_of k).does (state_of (policy_of k) c v) at (o + at) n x.cursor.at (drop at bytes) [] op
+      moved : Moved (policy_of g.kind).does (state_of (policy_of g.kind) g.c v) at (g.offset + at) n x.cursor.at (drop at bytes) [] op
       moved = found (Read op) is [] (λ _. refl)
 
       pub more_inside : x.cursor.at ≤ length bytes
@@ -251,17 +254,17 @@ module _ (k : Kind) (c o m : ℕ) (w bytes : List ℕ) (last : Bool) (before : L
       pub one_more_fits : Fits w64 (n + 1)
       one_more_fits = omega (arith, i.fits, i.few, more_inside, more_past)
 
-      pub again : (r : Reply) (u after : List ℕ) (p : ℕ) → Did (policy_of k) (call_of op) c v u (reply_is r) → length after ≡ length out → Put out after put (text_of (reply_is r)) p
-          → RunTo k c o m w bytes last before need u after x.cursor.at (n + 1) p
+      pub again : (r : Reply) (u after : List ℕ) (p : ℕ) → Did (policy_of g.kind) (call_of op) g.c v u (reply_is r) → length after ≡ length out → Put out after put (text_of (reply_is r)) p
+          → RunTo g w bytes last before need u after x.cursor.at (n + 1) p
       unfolding pending
       again r u after p d same s =
-          let P : Policy = policy_of k in
+          let P : Policy = policy_of g.kind in
           let t = put_there out after put (text_of (reply_is r)) p i.filled s in
           let to : ℕ = x.cursor.at in
           let q : at + (to - at) ≡ to = omega (arith, more_past) in
           let l : drop (to - at) (drop at bytes) ≡ drop to bytes = drop-drop (to - at) at bytes ∙ ap (λ (a : ℕ). drop a bytes) q in
-          let z : o + at + (to - at) ≡ o + to = omega (arith, more_past) in
-          let D = P.does (call_of op) (state_of P c v) in
+          let z : g.offset + at + (to - at) ≡ g.offset + to = omega (arith, more_past) in
+          let D = P.does (call_of op) (state_of P g.c v) in
           let on : ℕ → List ℕ → P.State → List ℕ = λ a y s. told_after (n + 1) (batch P.does a y s) in
           record {
             needs = i.needs;
@@ -278,16 +281,16 @@ module _ (k : Kind) (c o m : ℕ) (w bytes : List ℕ) (last : Bool) (before : L
             told = λ rest end.
                 i.told rest end
                 ∙ ap (λ (y : List ℕ). take put out ++ y) (found (Read op) is rest end).is
-                ∙ sym (append_assoc (take put out) (text_of D.answer) (on (o + at + (to - at)) (drop (to - at) (drop at bytes) ++ rest) D.state))
-                ∙ ap (λ (a : Answer). take put out ++ text_of a ++ on (o + at + (to - at)) (drop (to - at) (drop at bytes) ++ rest) D.state) (sym d.answer)
-                ∙ ap (λ (y : List ℕ). y ++ on (o + at + (to - at)) (drop (to - at) (drop at bytes) ++ rest) D.state) (sym t.0)
-                ∙ ap (λ (y : P.State). take p after ++ on (o + at + (to - at)) (drop (to - at) (drop at bytes) ++ rest) y) (sym d.state)
-                ∙ ap (λ (y : List ℕ). take p after ++ on (o + at + (to - at)) (y ++ rest) (state_of P c u)) l
-                ∙ ap (λ (a : ℕ). take p after ++ on a (drop to bytes ++ rest) (state_of P c u)) z;
+                ∙ sym (append_assoc (take put out) (text_of D.answer) (on (g.offset + at + (to - at)) (drop (to - at) (drop at bytes) ++ rest) D.state))
+                ∙ ap (λ (a : Answer). take put out ++ text_of a ++ on (g.offset + at + (to - at)) (drop (to - at) (drop at bytes) ++ rest) D.state) (sym d.answer)
+                ∙ ap (λ (y : List ℕ). y ++ on (g.offset + at + (to - at)) (drop (to - at) (drop at bytes) ++ rest) D.state) (sym t.0)
+                ∙ ap (λ (y : P.State). take p after ++ on (g.offset + at + (to - at)) (drop (to - at) (drop at bytes) ++ rest) y) (sym d.state)
+                ∙ ap (λ (y : List ℕ). take p after ++ on (g.offset + at + (to - at)) (y ++ rest) (state_of P g.c u)) l
+                ∙ ap (λ (a : ℕ). take p after ++ on a (drop to bytes ++ rest) (state_of P g.c u)) z;
           }
 
     -- the end, and a refusal
-    pub ends : x.found ≡ End → (after : List ℕ) (p : ℕ) → Put out after put (text_of (Finished n)) p → Feeds (Running k c o m) w bytes last Ended v at (take p after)
+    pub ends : x.found ≡ End → (after : List ℕ) (p : ℕ) → Put out after put (text_of (Finished n)) p → Feeds (Running g) w bytes last Ended v at (take p after)
     unfolding pending
     ends is after p s =
         record {
@@ -303,15 +306,16 @@ module _ (k : Kind) (c o m : ℕ) (w bytes : List ℕ) (last : Bool) (before : L
           progress = λ _ y. absurd (y refl);
         }
 
-    pub stop_fits : (r q : ℕ) → x.found ≡ Refused r q → Fits w64 (o + q)
+    pub stop_fits : (r : Refusal) (q : ℕ) → x.found ≡ Refused r q → Fits w64 (g.offset + q)
     stop_fits r q is =
         let f = found (Refused r q) is [] (λ _. refl) in
         omega (arith, f.inside, i.fits, i.inside, length-drop at bytes)
 
-    pub stops : (r q : ℕ) → x.found ≡ Refused r q → (after : List ℕ) (p : ℕ) → Put out after put (text_of (Stopped r (o + q))) p
-        → Feeds (Running k c o m) w bytes last Ended v at (take p after)
+    pub stops : (r : Refusal) (q h : ℕ) → x.found ≡ Refused r q → h ≡ number_of r → (after : List ℕ) (p : ℕ)
+        → Put out after put (text_of (Stopped h (g.offset + q))) p
+        → Feeds (Running g) w bytes last Ended v at (take p after)
     unfolding pending
-    stops r q is after p s =
+    stops r q h is number after p s =
         record {
           inside = i.inside;
           ready = tt;
@@ -319,17 +323,17 @@ module _ (k : Kind) (c o m : ℕ) (w bytes : List ℕ) (last : Bool) (before : L
           rest = i.past;
           told = λ fits rest end.
               let f = found (Refused r q) is rest end in
-              let z : o + at + (q - at) ≡ o + q = omega (arith, f.past) in
+              let z : g.offset + at + (q - at) ≡ g.offset + q = omega (arith, f.past) in
               i.told rest end
-              ∙ ap (λ (y : List ℕ). take put out ++ y) (f.is ∙ ap (λ (h : ℕ). text_of (Stopped r h)) z)
-              ∙ sym (put_there out after put (text_of (Stopped r (o + q))) p i.filled s).0
+              ∙ ap (λ (y : List ℕ). take put out ++ y) (f.is ∙ ap (λ (y : ℕ). text_of (Stopped (number_of r) y)) z ∙ ap (λ (y : ℕ). text_of (Stopped y (g.offset + q))) (sym number))
+              ∙ sym (put_there out after put (text_of (Stopped h (g.offset + q))) p i.filled s).0
               ∙ sym (append-nil (take p after));
           progress = λ _ y. absurd (y refl);
         }
 
-pub wrote_last : (k : Kind) (c o m : ℕ) (w bytes : List ℕ) (last : Bool) (before : List ℕ) (need : ℕ) (v out : List ℕ) (at n put : ℕ)
-    → RunTo k c o m w bytes last before need v out at n put → (after text : List ℕ) (p : ℕ) → length after ≡ length out → Put out after put text p → Wrote p before after
-wrote_last k c o m w bytes last before need v out at n put i after text p same s =
+pub wrote_last : (g : declared.Running) (w bytes : List ℕ) (last : Bool) (before : List ℕ) (need : ℕ) (v out : List ℕ) (at n put : ℕ)
+    → RunTo g w bytes last before need v out at n put → (after text : List ℕ) (p : ℕ) → length after ≡ length out → Put out after put text p → Wrote p before after
+wrote_last g w bytes last before need v out at n put i after text p same s =
     record { there = (put_there out after put text p i.filled s).1; size = same ∙ i.size }
 
 pub ruleset laws =
