@@ -5,12 +5,10 @@
 ghost use Rattle.std.specs.Prelude.{◌≡◌, ◌≤◌, length};
 
 use arc_core::ArcCore;
+use refusals::Refusal;
 
 fn word(area: &[u64], i: usize) -> u64 {
-    if i < area.len() {
-        return area[i];
-    }
-    0
+    area.get(i).copied().unwrap_or(0)
 }
 
 // The end of a line: the word's value.
@@ -45,10 +43,8 @@ fn put_kth(area: &[u64], start: usize, name: &[u8], k: usize) {
 
 // So many words of one kind.
 fn put_row(area: &[u64], start: usize, n: usize, name: &[u8]) {
-    let mut k: usize = 0;
-    while k < n {
+    for k in 0..n {
         put_kth(area, start, name, k);
-        k += 1;
     }
 }
 
@@ -80,10 +76,8 @@ fn put_cell(area: &[u64], start: usize, list: &[u8], cell: &[u8], k: usize) {
 
 // The links of so many cells.
 fn put_cells(area: &[u64], start: usize, n: usize, list: &[u8], cell: &[u8]) {
-    let mut k: usize = 0;
-    while k < n {
+    for k in 0..n {
         put_cell(area, start, list, cell, k);
-        k += 1;
     }
 }
 
@@ -146,17 +140,15 @@ fn put_area(area: &[u64]) {
     put_lookup(area);
 }
 
-// The operations of P1.
-fn play_first(area: &mut [u64]) {
-    ArcCore::new(area, 2);
-    ArcCore::insert(area, 5, 10);
-    ArcCore::insert(area, 6, 11);
-}
-
-fn play_others(area: &mut [u64]) {
-    ArcCore::get(area, 5);
-    ArcCore::insert(area, 7, 12);
-    ArcCore::insert(area, 5, 13);
+// The operations of P1, of which none is refused.
+fn play(area: &mut [u64]) -> Result<(), Refusal> {
+    ArcCore::new(area, 2)?;
+    ArcCore::insert(area, 5, 10)?;
+    ArcCore::insert(area, 6, 11)?;
+    ArcCore::get(area, 5)?;
+    ArcCore::insert(area, 7, 12)?;
+    ArcCore::insert(area, 5, 13)?;
+    Ok(())
 }
 
 // The words of an area of capacity 2: 24 * 2 + 64.
@@ -167,9 +159,9 @@ fn words() -> [u64; 112]
 }
 
 fn run(area: &mut [u64]) {
-    play_first(area);
-    play_others(area);
-    put_area(area);
+    if play(area).is_ok() {
+        put_area(area);
+    }
 }
 
 fn main() {

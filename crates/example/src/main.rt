@@ -2,9 +2,9 @@
 // holds nothing: the next page is read into it, and the frame of the page that has to go holds nothing then.
 #![tactic(auto)]
 
-use answers::{Got, Inserted};
+use answers::Inserted;
 use arc_core::ArcCore;
-use empty_cache::Made;
+use refusals::Refusal;
 
 // The file descriptor of standard output.
 const STDOUT_FILENO: i32 = 1;
@@ -24,8 +24,8 @@ fn after(frame: u32) -> u32 {
 }
 
 // The page was read into `frame`, which held nothing. Tells the cache; the frame that holds nothing now.
-fn enter(area: &mut [u64], page: u64, frame: u32) -> u32 {
-    match ArcCore::insert(area, page, frame) {
+fn enter(area: &mut [u64], page: u64, frame: u32) -> Result<u32, Refusal> {
+    let free = match ArcCore::insert(area, page, frame)? {
         Inserted::New => after(frame),
         Inserted::Out {
             page: old,
@@ -37,37 +37,36 @@ fn enter(area: &mut [u64], page: u64, frame: u32) -> u32 {
         }
         Inserted::Old(free) => free, // it was resident: never after a miss
         Inserted::None => frame, // a cache of 0 frames
-        Inserted::Refused => frame, // the words are no cache of ARC
-    }
+    };
+    Ok(free)
 }
 
 // A page fault; the frame that holds nothing after it.
-fn fault(area: &mut [u64], page: u64, spare: u32) -> u32 {
-    match ArcCore::get(area, page) {
-        Got::Hit(frame) => {
+fn fault(area: &mut [u64], page: u64, spare: u32) -> Result<u32, Refusal> {
+    match ArcCore::get(area, page)? {
+        Some(frame) => {
             say(b"page ", page, b" is in frame ", frame);
-            spare
+            Ok(spare)
         }
-        Got::Miss => {
+        None => {
             say(b"page ", page, b" is read into frame ", spare);
             enter(area, page, spare)
         }
-        Got::Refused => spare,
     }
 }
 
-fn run(area: &mut [u64]) {
-    let first = fault(area, 5, 0);
-    let second = fault(area, 6, first);
-    let third = fault(area, 5, second);
-    let fourth = fault(area, 7, third);
-    fault(area, 5, fourth);
+fn run(area: &mut [u64]) -> Result<(), Refusal> {
+    ArcCore::new(area, 2)?;
+    let mut spare = 0;
+    for page in [5, 6, 5, 7, 5] {
+        spare = fault(area, page, spare)?;
+    }
+    Ok(())
 }
 
 fn main() {
     let mut area = [0u64; 112]; // ArcCore::words(2) = 24 * 2 + 64
-    match ArcCore::new(&mut area, 2) {
-        Made::Made => run(&mut area),
-        Made::Refused(_) => {}
+    if let Err(refusal) = run(&mut area) {
+        say(b"refusal ", refusal.number() as u64, b" at capacity ", 2);
     }
 }

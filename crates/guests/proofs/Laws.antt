@@ -2,24 +2,20 @@
 use mathlib.Core.Path.{◌≡◌, refl, sym, subst, ap, ◌∙◌}
 use mathlib.Core.Bool.{Bool, true, false, not, cond}
 use mathlib.Core.List.{List}
-use mathlib.Core.Option.{Option, some, none}
 use Prim.Native.Nat.{ℕ, suc, ◌+◌, ◌*◌, ◌-◌, ◌^◌, ◌<◌, ◌≤◌}
 use native.Mathlib.Omega.{arith}
 use lib.Dec.{eqb, ltb}
 use lib.ListN.{length, get_or, drop}
 use borrow.Author.Rules.{rules}
+use Rattle.std.specs.Prelude.{Option, Some, None, Result, Ok, Err, is_ok}
 use borrow.Author.Tests.{ltb-true, ltb-false, eqb-true, eqb-false, not-true, not-false, lt-ltb, le-ltb, ne_eqb}
-use Rattle.rules.specs.State.{resident}
-use Rattle.rules.specs.Calls.{Get, Insert, Answer, Refused, Done}
-use Rattle.rules.specs.Arc as arc
+use Rattle.rules.specs.Calls.{Get, Insert, Answer, Done}
 use Rattle.rules.specs.Public.{words_needed}
 use Rattle.rules.specs.Arc.{Arc, does}
 use Rattle.area.specs.Area.{capacity_of}
 use Rattle.area.specs.Part.{splice}
 use Rattle.area.proofs.Part.{length_part, length_splice, part_splice, part_above, part_below, drop_above}
 use Rattle.answers.specs.Answers.{got_is, inserted_is}
-use Rattle.answers.specs.declared.Got.{Got}
-use Rattle.answers.specs.declared.Got.TheVariants as got
 use Rattle.answers.specs.declared.Inserted.{Inserted}
 use Rattle.answers.specs.declared.Inserted.TheVariants as inserted
 use Rattle.contracts.specs.Policy.{arc_policy, state_of}
@@ -28,12 +24,9 @@ use Rattle.contracts.specs.Outer.{Making}
 use Rattle.contracts.proofs.Exact.{arc_exact}
 use Rattle.contracts.proofs.Reading.{reads_none}
 use Rattle.opening.specs.Opening.{Opens}
-use Rattle.opening.specs.declared.Opened.{Opened}
-use Rattle.opening.specs.declared.Opened.TheVariants as opened
 use Rattle.opening.proofs.Public.{opened_good}
+use Rattle.refusals.specs.declared.Refusal.{Refusal}
 use Rattle.guests.specs.Guests.{Ready, held, spare, hits, faulted, served_is, Faulted, own, AllReady, FirstBad, Checks, Tells, Only, Started, Alone, Stepped, state_after, hits_after, Ran, Even, Fits}
-use Rattle.guests.specs.declared.Checked.{Checked}
-use Rattle.guests.specs.declared.Checked.TheVariants as checked
 use Rattle.guests.specs.declared.Served.{Served}
 use Rattle.guests.specs.declared.Served.TheVariants as served
 
@@ -51,25 +44,17 @@ held_at c w e = ap (λ (n : ℕ). state_of arc_policy n w) e
 spare_kept : (c : ℕ) (w v : List ℕ) → capacity_of w ≡ c → capacity_of v ≡ c → drop (words_needed c) v ≡ drop (words_needed c) w → spare v ≡ spare w
 spare_kept c w v e d r = rw (d, e) r
 
-never_refuses : (x : ℕ) (s : Arc) → (does (Get x) s).answer ≡ Refused 3 → ⊥
-unfolding does arc.got
-never_refuses x s = by (resident x s)
-  where
-    by : (o : Option arc.Resident) → (arc.got o s).answer ≡ Refused 3 → ⊥
-    by none e = let z : ◌≡◌ {A = ℕ} 0 1 = cc in omega arith
-    by (some r) e = let z : ◌≡◌ {A = ℕ} 0 1 = cc in omega arith
-
-module _ (x f c : ℕ) (w v : List ℕ) (g : Got) (e : c ≡ capacity_of w) (d : Did arc_policy (Get x) c w v (got_is g)) where
+module _ (x f c : ℕ) (w v : List ℕ) (g : Option ℕ) (e : c ≡ capacity_of w) (d : Did arc_policy (Get x) c w v (got_is g)) where
   -- what `get` told and left
-  answered : (a : Got) → g ≡ a → (does (Get x) (held w)).answer ≡ got_is a
+  answered : (a : Option ℕ) → g ≡ a → (does (Get x) (held w)).answer ≡ got_is a
   answered a q = ap (λ (s : Arc). (does (Get x) s).answer) (held_at c w (sym e)) ∙ sym d.answer ∙ ap got_is q
 
   left : held v ≡ (does (Get x) (held w)).state
   left = held_at c v d.good.stored.capacity ∙ d.state ∙ ap (λ (s : Arc). (does (Get x) s).state) (sym (held_at c w (sym e)))
 
-  pub fault_hit : (h : ℕ) → g ≡ got.Hit h → Faulted x f w v (served_is (served.Resident h))
+  pub fault_hit : (h : ℕ) → g ≡ Some h → Faulted x f w v (served_is (served.Resident h))
   fault_hit h q =
-      let a = answered (got.Hit h) q in
+      let a = answered (Some h) q in
       let n : faulted x f (held w) ≡ does (Get x) (held w) = rw (ap (λ b. eqb (hits b) 0) a) refl in
       record {
         ready = ready_at c v d.good;
@@ -79,9 +64,9 @@ module _ (x f c : ℕ) (w v : List ℕ) (g : Got) (e : c ≡ capacity_of w) (d :
         size = d.size;
       }
 
-  pub fault_miss : g ≡ got.Miss → (u : List ℕ) (r : Inserted) → Did arc_policy (Insert x f) c v u (inserted_is r) → Faulted x f w u (served_is (served.Filled r))
+  pub fault_miss : g ≡ None → (u : List ℕ) (r : Inserted) → Did arc_policy (Insert x f) c v u (inserted_is r) → Faulted x f w u (served_is (served.Filled r))
   fault_miss q u r i =
-      let a = answered got.Miss q in
+      let a = answered None q in
       let n : faulted x f (held w) ≡ does (Insert x f) (does (Get x) (held w)).state = rw (ap (λ b. eqb (hits b) 0) a) refl in
       let m : does (Insert x f) (state_of arc_policy c v) ≡ faulted x f (held w) = ap (does (Insert x f)) (sym (held_at c v d.good.stored.capacity) ∙ left) ∙ sym n in
       record {
@@ -92,15 +77,11 @@ module _ (x f c : ℕ) (w v : List ℕ) (g : Got) (e : c ≡ capacity_of w) (d :
         size = i.size ∙ d.size;
       }
 
-  pub not_reached : g ≡ got.Refused → (a : Answer) → Faulted x f w v a
-  not_reached q a = absurd (never_refuses x (held w) (answered got.Refused q))
-
 pub inserted_no_hit : (r : Inserted) → 0 ≡ hits (inserted_is r)
 inserted_no_hit inserted.New = refl
 inserted_no_hit (inserted.Out p f l n) = refl
 inserted_no_hit (inserted.Old f) = refl
 inserted_no_hit inserted.None = refl
-inserted_no_hit inserted.Refused = refl
 
 -- ---- the words of one guest
 module _ (g : ℕ) (w u : List ℕ) (few : g < 6) (size : 9600 ≤ length w) (same : length u ≡ length (own g w)) where
@@ -238,20 +219,17 @@ module _ (gs ps fs w₀ w : List ℕ) (n i : ℕ) (r : RunTo gs ps fs w₀ w n i
       }
 
 -- ---- the check of one guest
-module _ (g : ℕ) (w : List ℕ) (o : Opened) (h : Opens 1 (own g w) o) where
-  pub tells_ready : (c : ℕ) → o ≡ opened.Cache c → Tells g w true
-  tells_ready c q =
-      record {
-        ready = λ _. ready_at c (own g w) (opened_good arc_policy o (own g w) h arc_exact c q);
-        bad = λ z. let y : ◌≡◌ {A = ℕ} 0 1 = cc in absurd (omega arith);
-      }
-
-  pub tells_bad : o ≡ opened.Refused → Tells g w false
-  tells_bad q =
-      record {
-        ready = λ z. let y : ◌≡◌ {A = ℕ} 0 1 = cc in absurd (omega arith);
-        bad = λ _. reads_none arc_policy (own g w) (subst (λ (y : Opened). Opens 1 (own g w) y) q h);
-      }
+pub tells : (g : ℕ) (w : List ℕ) (o : Result ℕ Refusal) → Opens 1 (own g w) o → Tells g w (is_ok o)
+tells g w (Ok c) h =
+    record {
+      ready = λ _. ready_at c (own g w) (opened_good arc_policy (Ok c) (own g w) h arc_exact c refl);
+      bad = λ z. let y : ◌≡◌ {A = Bool} true false = z in absurd (cc);
+    }
+tells g w (Err r) h =
+    record {
+      ready = λ z. let y : ◌≡◌ {A = Bool} false true = z in absurd (cc);
+      bad = λ _. reads_none arc_policy (own g w) h.1;
+    }
 
 -- ---- the check of all: the guests below g are ready
 pub record CheckedTo (w : List ℕ) (g : ℕ) : Type 0 where
@@ -282,12 +260,16 @@ module _ (w : List ℕ) (g : ℕ) (c : CheckedTo w g) where
       record { size = c.size; each = λ i h. c.before i (omega arith) }
 
 -- ---- a round
-module _ (w : List ℕ) (r : Checked) (h : Checks w r) where
-  pub checks_all : r ≡ checked.All → AllReady w
-  checks_all q = subst (λ (y : Checked). Checks w y) q h
+module _ (w : List ℕ) (r : Result (Unit {0}) ℕ) (h : Checks w r) where
+  pub checks_all : (u : Unit {0}) → r ≡ Ok u → AllReady w
+  checks_all u q = subst (λ (y : Result (Unit {0}) ℕ). Checks w y) q h
 
-  pub checks_refused : (g : ℕ) → r ≡ checked.Refused g → FirstBad g w
-  checks_refused g q = subst (λ (y : Checked). Checks w y) q h
+  pub checks_refused : (g : ℕ) → r ≡ Err g → FirstBad g w
+  checks_refused g q = subst (λ (y : Result (Unit {0}) ℕ). Checks w y) q h
+
+pub checked_ok : (w : List ℕ) (r : Result (Unit {0}) ℕ) → Checks w r → is_ok r ≡ true → AllReady w
+checked_ok w (Ok u) h e = h
+checked_ok w (Err g) h e = let z : ◌≡◌ {A = Bool} false true = e in absurd (cc)
 
 module _ (gs ps fs w : List ℕ) where
   pub too_short : length w < 9600 → (Fits gs ps fs w → ⊥) × (w ≡ w)
@@ -299,4 +281,4 @@ module _ (gs ps fs w : List ℕ) where
   pub uneven_frames : (length fs ≡ length gs → ⊥) → (Fits gs ps fs w → ⊥) × (w ≡ w)
   uneven_frames h = (λ f. h f.even.frames, refl)
 
-pub ruleset laws = (good_at, fault_hit, fault_miss, not_reached, hits_resident, hits_filled, stepped, skipped, begins, again, ran, tells_ready, tells_bad, none_checked, one_more, first_bad, all_checked, checks_all, checks_refused, too_short, uneven_pages, uneven_frames, rules)
+pub ruleset laws = (good_at, fault_hit, fault_miss, hits_resident, hits_filled, stepped, skipped, begins, again, ran, tells, none_checked, one_more, first_bad, all_checked, checks_all, checks_refused, too_short, uneven_pages, uneven_frames, rules)

@@ -1,5 +1,5 @@
 -- Six guests in one lent slice of words, and what their page faults do. Assumes nothing.
-use Rattle.std.specs.Prelude.{◌≡◌, Bool, cond, true, false, List, ℕ, zero, suc, ◌+◌, ◌*◌, ◌<◌, ◌≤◌, eqb, ltb, length, get_or, drop}
+use Rattle.std.specs.Prelude.{◌≡◌, Bool, cond, true, false, List, ℕ, zero, suc, ◌+◌, ◌*◌, ◌<◌, ◌≤◌, eqb, ltb, length, get_or, drop, Result, Ok, Err}
 use Rattle.std.proofs.Math.Option.{none}
 use Rattle.rules.specs.Calls as rules
 use Rattle.rules.specs.Calls.{Get, Insert, Answer, Done}
@@ -14,10 +14,8 @@ use Rattle.contracts.specs.Inner.{Good}
 use Rattle.contracts.specs.Outer.{Making}
 use Rattle.guests.specs.declared.Served.{Served}
 use Rattle.guests.specs.declared.Served.TheVariants as served
-use Rattle.guests.specs.declared.Checked.{Checked}
-use Rattle.guests.specs.declared.Checked.TheVariants as checked
-use Rattle.guests.specs.declared.Outcome.{Outcome}
-use Rattle.guests.specs.declared.Outcome.TheVariants as outcome
+use Rattle.guests.specs.declared.RoundError.{RoundError}
+use Rattle.guests.specs.declared.RoundError.TheVariants.{Refused, Misfit}
 
 -- ---- one area
 -- it is ready to be served: it holds a well-formed cache of ARC, of the capacity in its header
@@ -66,9 +64,9 @@ pub record FirstBad (g : ℕ) (w : List ℕ) : Type 0 where
   pub bad : reads arc_policy (own g w) ≡ none
   pub before : (i : ℕ) → i < g → Ready (own i w)
 
-abbrev pub Checks : List ℕ → Checked → Type 0
-Checks w checked.All = AllReady w
-Checks w (checked.Refused g) = FirstBad g w
+abbrev pub Checks : List ℕ → Result (Unit {0}) ℕ → Type 0
+Checks w (Ok _) = AllReady w
+Checks w (Err g) = FirstBad g w
 
 -- what the check of one guest says
 pub record Tells (g : ℕ) (w : List ℕ) (b : Bool) : Type 0 where
@@ -132,7 +130,7 @@ module _ (gs ps fs w : List ℕ) where
     pub even : Even gs ps fs
 
   -- THE CONTRACT of a round on any words: it is run on six areas that were ready, or nothing changes
-  abbrev pub Rounds : List ℕ → Outcome → Type 0
-  Rounds v (outcome.Hits n) = Fits × AllReady w × Ran v n
-  Rounds v (outcome.Refused g) = Fits × FirstBad g w × (v ≡ w)
-  Rounds v outcome.Misfit = (Fits → ⊥) × (v ≡ w)
+  abbrev pub Rounds : List ℕ → Result ℕ RoundError → Type 0
+  Rounds v (Ok n) = Fits × AllReady w × Ran v n
+  Rounds v (Err (Refused g)) = Fits × FirstBad g w × (v ≡ w)
+  Rounds v (Err Misfit) = (Fits → ⊥) × (v ≡ w)

@@ -9,13 +9,12 @@
 #![tactic(auto)]
 
 ghost use Rattle.std.specs.Prelude.{◌≡◌, ◌<◌, ◌≤◌, length};
-ghost use Rattle.contracts.specs.Outer.{made_is};
+ghost use Rattle.answers.specs.Answers.{told, made_is};
 ghost use Rattle.guests.specs.Guests.{hits as hits_of, served_is, Ready, Faulted, AllReady, Checks, Tells, Started, Alone, Stepped, Even, Ran, Rounds};
 
-use answers::{Got, Inserted};
+use answers::Inserted;
 use arc_core::ArcCore;
-use empty_cache::Made;
-use opening::Opened;
+use refusals::Refusal;
 use rules::Kind;
 
 // What a page fault comes to. Resident: the page is in this frame; the frame that was offered is still free. Filled: the page was not resident, and
@@ -27,26 +26,19 @@ pub enum Served {
     Filled(Inserted),
 }
 
-// All six areas hold a cache of ARC, or this guest's is the first that does not.
-#[derive(Clone, Copy)]
-pub enum Checked {
-    All,
-    Refused(usize),
-}
-
-// The hits of a round; the guest whose area is refused; fewer words than six areas need, or not as many pages and frames as guests.
-#[derive(Clone, Copy)]
-pub enum Outcome {
-    Hits(u64),
+// Why no round is run: this guest's area is the first that holds no cache of ARC; or there are fewer words than six areas
+// need, or not as many pages and frames as guests.
+#[derive(Clone, Copy, PartialEq, Eq)]
+pub enum RoundError {
     Refused(usize),
     Misfit,
 }
 
-// An empty cache of so many frames for a guest, by the public call: `Made`; or `Refused(1)`, more than 1,024 frames; or `Refused(2)`, more than 64,
-// which 1,600 words do not hold. An inner call too: it asks for the words of six guests.
-pub fn start(words: &mut [u64], guest: usize, frames: u64) -> Made
+// An empty cache of so many frames for a guest, by the public call. It refuses more than 1,024 frames, `Capacity`, and more
+// than 64, `Area`, which 1,600 words do not hold. An inner call too: it asks for the words of six guests.
+pub fn start(words: &mut [u64], guest: usize, frames: u64) -> Result<(), Refusal>
     requires { (9600 ≤ length words.old) × (guest < 6) }
-    ensures { Started guest frames words.old words.new (made_is result) }
+    ensures { Started guest frames words.old words.new (told made_is result) }
 {
     let a = guest * 1600;
     let b = a + 1600;
@@ -59,15 +51,9 @@ fn fault(area: &mut [u64], page: u64, frame: u32) -> Served
     ensures { Faulted page frame area.old area.new (served_is result) }
 {
     let c = area::capacity(area) as usize;
-    let got = inner_calls::get(area, c, Kind::Arc, page);
-    match got {
-        Got::Hit(f) => Served::Resident(f),
-        Got::Miss => {
-            let r = inner_calls::insert(area, c, Kind::Arc, page, frame);
-            Served::Filled(r)
-        }
-        // An inner call never refuses: it is proved that this is not reached.
-        Got::Refused => Served::Resident(0),
+    match inner_calls::get(area, c, Kind::Arc, page) {
+        Some(f) => Served::Resident(f),
+        None => Served::Filled(inner_calls::insert(area, c, Kind::Arc, page, frame)),
     }
 }
 
@@ -109,14 +95,8 @@ fn run(words: &mut [u64], guests: &[usize], pages: &[u64], frames: &[u32]) -> u6
     ensures { Ran guests.now pages.now frames.now words.old words.new result }
 {
     let mut n: u64 = 0;
-    let mut i = 0;
-    while i < guests.len() {
-        let guest = guests[i];
-        let page = pages[i];
-        let frame = frames[i];
-        let hit = step(words, guest, page, frame);
-        n += hit;
-        i += 1;
+    for (i, guest) in guests.iter().enumerate() {
+        n += step(words, *guest, pages[i], frames[i]);
     }
     n
 }
@@ -128,46 +108,41 @@ fn ready(words: &[u64], guest: usize) -> bool
 {
     let a = guest * 1600;
     let b = a + 1600;
-    match opening::open(&words[a..b], Kind::Arc) {
-        Opened::Cache(_) => true,
-        Opened::Refused => false,
-    }
+    opening::open(&words[a..b], Kind::Arc).is_ok()
 }
 
-// The check of all six.
-fn check(words: &[u64]) -> Checked
+// The check of all six, which names the first guest whose area holds no cache of ARC.
+fn check(words: &[u64]) -> Result<(), usize>
     requires { 9600 ≤ length words.now }
     ensures { Checks words.now result }
 {
-    let mut guest = 0;
-    while guest < 6 {
-        let fine = ready(words, guest);
-        if !fine {
-            return Checked::Refused(guest);
+    for guest in 0..6 {
+        if !ready(words, guest) {
+            return Err(guest);
         }
-        guest += 1;
     }
-    Checked::All
+    Ok(())
 }
 
-// A round, on any words: checked once, then run.
-pub fn round(words: &mut [u64], guests: &[usize], pages: &[u64], frames: &[u32]) -> Outcome
+// A round, on any words: checked once, then run. It answers the hits. The requests come as three slices of any lengths, and
+// not as one of a struct, so that a board hands on its lists as they are; unequal ones are refused.
+pub fn round(
+    words: &mut [u64],
+    guests: &[usize],
+    pages: &[u64],
+    frames: &[u32],
+) -> Result<u64, RoundError>
     ensures { Rounds guests.now pages.now frames.now words.old words.new result }
 {
     if words.len() < 9600 {
-        return Outcome::Misfit;
+        return Err(RoundError::Misfit);
     }
     if pages.len() != guests.len() {
-        return Outcome::Misfit;
+        return Err(RoundError::Misfit);
     }
     if frames.len() != guests.len() {
-        return Outcome::Misfit;
+        return Err(RoundError::Misfit);
     }
-    match check(words) {
-        Checked::All => {
-            let n = run(words, guests, pages, frames);
-            Outcome::Hits(n)
-        }
-        Checked::Refused(guest) => Outcome::Refused(guest),
-    }
+    check(words).map_err(RoundError::Refused)?;
+    Ok(run(words, guests, pages, frames))
 }

@@ -1,111 +1,41 @@
-// The test program `hostile`: areas of any words on standard input, each a count of words in two bytes and the words in eight bytes each, low
-// bytes first. On each area it writes a line: what `len` answers for ARC and for CAR, `3` where the area is refused and else `ok` and the
-// number. Where an area is refused, `get`, `insert`, `remove` and `clear` are called too: ` answered` is added where one of them is not refused,
-// and ` changed` where the area is no longer what was read. Areas and lines are made by tools/hostile_areas, from docs/LAYOUT.md alone.
+// The test program `hostile`: areas of any words on standard input, each a count of words in two bytes and the words
+// in eight bytes each, low bytes first. On each area it writes a line: what `len` answers for ARC and for CAR, `3`
+// where the area is refused and else `ok` and the number. Where an area is refused, `get`, `insert`, `remove` and
+// `clear` are called too: ` answered` is added where one of them is not refused, and ` changed` where the area is no
+// longer what was read. Areas and lines are made by tools/hostile_areas, from docs/LAYOUT.md alone.
 #![tactic(auto)]
 
 ghost use Rattle.std.specs.Prelude.{◌≡◌, ◌<◌, length};
 
-use answers::{Cleared, Counted, Gone, Got, Inserted};
+use refusals::Refusal;
 use rules::Kind;
 
 // ---- words
 
-fn pair(bytes: &[u8], at: usize) -> u64 {
-    let n = test_text::pair_at(bytes, at);
-    n as u64
-}
-
-fn half_at(bytes: &[u8], at: usize) -> u64
-    requires { at < 131072 }
-{
-    let low = pair(bytes, at);
-    let high = pair(bytes, at + 2);
-    test_text::plus(low, (high % 65536) * 65536)
-}
-
-// Word i of those that were read.
-fn word_at(bytes: &[u8], i: usize) -> u64 {
-    if i < 8192 {
-        let at = 8 * i;
-        let low = half_at(bytes, at);
-        let high = half_at(bytes, at + 4);
-        return test_text::plus(low, (high % 4294967296) * 4294967296);
-    }
-    0
-}
-
-fn set(area: &mut [u64], i: usize, w: u64) {
-    if i < area.len() {
-        area[i] = w;
-    }
-}
-
 // The words that were read into an area of as many.
 fn fill(area: &mut [u64], bytes: &[u8]) {
-    let mut i: usize = 0;
-    while i < area.len() {
-        let w = word_at(bytes, i);
-        set(area, i, w);
-        i += 1;
+    let (words, _) = bytes.as_chunks::<8>();
+    for (w, low_first) in area.iter_mut().zip(words) {
+        *w = u64::from_le_bytes(*low_first);
     }
 }
 
 // Whether the area is what was read.
 fn unchanged(area: &[u64], bytes: &[u8]) -> bool {
-    let mut i: usize = 0;
-    while i < area.len() {
-        let w = word_at(bytes, i);
-        if area[i] != w {
-            return false;
-        }
-        i += 1;
-    }
-    true
+    let (words, _) = bytes.as_chunks::<8>();
+    area.iter()
+        .zip(words)
+        .all(|(w, low_first)| *w == u64::from_le_bytes(*low_first))
 }
 
 // ---- the calls
 
-fn get_refused(area: &mut [u64], kind: Kind) -> bool {
-    let r = public_calls::get(area, kind, 5);
-    if let Got::Refused = r { true } else { false }
-}
-
-fn insert_refused(area: &mut [u64], kind: Kind) -> bool {
-    let r = public_calls::insert(area, kind, 5, 7);
-    if let Inserted::Refused = r {
-        true
-    } else {
-        false
-    }
-}
-
-fn remove_refused(area: &mut [u64], kind: Kind) -> bool {
-    let r = public_calls::remove(area, kind, 5);
-    if let Gone::Refused = r { true } else { false }
-}
-
-fn clear_refused(area: &mut [u64], kind: Kind) -> bool {
-    let r = public_calls::clear(area, kind);
-    if let Cleared::Refused = r {
-        true
-    } else {
-        false
-    }
-}
-
 // Whether each of the calls that change an area is refused.
 fn all_refused(area: &mut [u64], kind: Kind) -> bool {
-    if !get_refused(area, kind) {
-        return false;
-    }
-    if !insert_refused(area, kind) {
-        return false;
-    }
-    if !remove_refused(area, kind) {
-        return false;
-    }
-    clear_refused(area, kind)
+    public_calls::get(area, kind, 5).is_err()
+        && public_calls::insert(area, kind, 5, 7).is_err()
+        && public_calls::remove(area, kind, 5).is_err()
+        && public_calls::clear(area, kind).is_err()
 }
 
 // ---- the lines
@@ -122,16 +52,16 @@ fn put_changed(area: &[u64], bytes: &[u8]) {
     }
 }
 
-fn put_refused(area: &mut [u64], kind: Kind, bytes: &[u8]) {
-    test_text::word(b"3");
+fn put_refused(area: &mut [u64], kind: Kind, bytes: &[u8], refusal: Refusal) {
+    test_text::number(u64::from(refusal.number()));
     put_answered(area, kind);
     put_changed(area, bytes);
 }
 
 fn put_kind(area: &mut [u64], kind: Kind, bytes: &[u8]) {
     match public_calls::len(area, kind) {
-        Counted::Number(n) => test_text::field(b"ok ", n),
-        Counted::Refused => put_refused(area, kind, bytes),
+        Ok(n) => test_text::field(b"ok ", n),
+        Err(refusal) => put_refused(area, kind, bytes, refusal),
     }
 }
 
@@ -167,14 +97,12 @@ fn read_case(area: &mut [u64], bytes: &mut [u8]) -> bool {
     false
 }
 
-// A proved loop has to end, and nothing says that the input does: the turns are counted down, from a number that no run uses up.
+// A proved loop has to end, and nothing says that the input does: the turns have a bound, which no run uses up.
 fn run(area: &mut [u64], bytes: &mut [u8]) {
-    let mut turns = u64::MAX;
-    while turns > 0 {
+    for _ in 0..u64::MAX {
         if !read_case(area, bytes) {
             return;
         }
-        turns -= 1;
     }
 }
 

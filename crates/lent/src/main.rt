@@ -10,16 +10,17 @@ ghost use Rattle.listing.specs.Outcome.{ListingOutcome};
 ghost use Rattle.lent.specs.Lent.{sevens};
 
 use arc_core::ArcCore;
-use batch::{Counts, Ran, Tally};
+use batch::{Counts, Stopped, Tally};
 use car_core::CarCore;
-use empty_cache::Made;
-use listing::{Listed, Record};
+use listing::Record;
+use refusals::Refusal;
 use rules::Kind;
+use test_text::area_words::word;
 
 // What a listing answers, and the four records that were lent to it.
 #[derive(Clone, Copy)]
 struct Listing {
-    answer: Listed,
+    answer: Result<u64, Refusal>,
     records: [Record; 4],
 }
 
@@ -42,32 +43,41 @@ fn lent_list(area: &[u64], kind: Kind) -> Listing
 
 // ---- what they told and left, as text
 
-fn put_ran(ran: Ran) {
+fn put_refusal(refusal: Refusal) {
+    test_text::field(b"refusal ", u64::from(refusal.number()));
+}
+
+fn put_ran(ran: Result<u64, Stopped>) {
     match ran {
-        Ran::Done(n) => test_text::field(b"done ", n),
-        Ran::Stopped { number, offset } => {
-            test_text::field(b"refusal ", number as u64);
+        Ok(n) => test_text::field(b"done ", n),
+        Err(Stopped::Trace { refusal, offset }) => {
+            put_refusal(refusal);
             test_text::field(b" at ", offset);
         }
-        Ran::Refused => test_text::word(b"refusal 3"),
+        Err(Stopped::State) => put_refusal(Refusal::State),
     }
 }
 
 fn put_counts(n: Counts) {
-    test_text::field(b"; counts ", n.gets);
-    test_text::field(b" ", n.get_hits);
-    test_text::field(b" ", n.updates);
-    test_text::field(b" ", n.new_pages);
-    test_text::field(b" ", n.evictions);
-    test_text::field(b" ", n.steps);
-    test_text::field(b" ", n.removals);
+    test_text::word(b"; counts");
+    for count in [
+        n.gets,
+        n.get_hits,
+        n.updates,
+        n.new_pages,
+        n.evictions,
+        n.steps,
+        n.removals,
+    ] {
+        test_text::field(b" ", count);
+    }
 }
 
-fn put_listed(answer: Listed) {
+fn put_listed(answer: Result<u64, Refusal>) {
+    test_text::word(b"; ");
     match answer {
-        Listed::Count(n) => test_text::field(b"; listed ", n),
-        Listed::Room => test_text::word(b"; refusal 6"),
-        Listed::Refused => test_text::word(b"; refusal 3"),
+        Ok(n) => test_text::field(b"listed ", n),
+        Err(refusal) => put_refusal(refusal),
     }
 }
 
@@ -77,14 +87,9 @@ fn put_record(r: Record) {
 }
 
 fn put_records(records: [Record; 4]) {
-    let a = records[0];
-    let b = records[1];
-    let c = records[2];
-    let d = records[3];
-    put_record(a);
-    put_record(b);
-    put_record(c);
-    put_record(d);
+    for r in records {
+        put_record(r);
+    }
 }
 
 fn put_tally(t: Tally) {
@@ -142,8 +147,8 @@ fn run_new(area: &mut [u64], kind: Kind, c: u64, trace: &[u8]) {
     test_text::field(b" frames in ", n);
     test_text::word(b" words: ");
     match public_calls::new(area, kind, c) {
-        Made::Made => run(area, kind, trace),
-        Made::Refused(number) => test_text::field(b"refusal ", number as u64),
+        Ok(()) => run(area, kind, trace),
+        Err(refusal) => put_refusal(refusal),
     }
 }
 
@@ -182,24 +187,10 @@ fn run_kind(area: &mut [u64], kind: Kind, other: Kind) {
 // Whether the words 4 to 42 of the header, in which nothing is kept, are as they were before `new`: sevens. No contract
 // says so.
 fn unused_kept(area: &[u64]) -> bool {
-    let mut i: usize = 4;
-    while i < 43 {
-        if i >= area.len() {
-            return false;
-        }
-        if area[i] != 7 {
-            return false;
-        }
-        i += 1;
+    match area.get(4..43) {
+        Some(unused) => unused.iter().all(|w| *w == 7),
+        None => false,
     }
-    true
-}
-
-fn word(area: &[u64], i: usize) -> u64 {
-    if i < area.len() {
-        return area[i];
-    }
-    0
 }
 
 fn put_header(area: &[u64]) {

@@ -5,5 +5,5 @@ use Rattle.contracts.specs.Policy.{policy_of}
 use Rattle.contracts.specs.Inner.{Good}
 
 -- the words are a writing of a well-formed state of that kind, of capacity c
-unfoldable pub Ready : Kind → ℕ → List ℕ → Type 0
+abbrev pub Ready : Kind → ℕ → List ℕ → Type 0
 Ready k c w = Good (policy_of k) c w

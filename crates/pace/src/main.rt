@@ -1,21 +1,22 @@
-// The program `pace`: how fast a batch is. Arguments KIND (1 ARC, 2 CAR), CAPACITY and REPEATS; operations on standard input, without a kind
-// byte and a capacity. The trace is read whole; then it is run that often, each time on a fresh cache, and the counts of the
-// last run are told on one line: gets, hits, updates, new pages, evictions, steps, removals; or the refusal, `stop R at O`.
+// The program `pace`: how fast a batch is. Arguments KIND (1 ARC, 2 CAR), CAPACITY and REPEATS; operations on
+// standard input, without a kind byte and a capacity. The trace is read whole; then it is run that often, each time
+// on a fresh cache, and the counts of the last run are told on one line: gets, hits, updates, new pages, evictions,
+// steps, removals; or the refusal, `stop R at O`.
 //
-// An array has at most 524,288 elements, so the trace lies in eight, 4 MB together. Each holds whole operations: what a buffer has of an
-// operation that it cuts moves to the start of the next. An area is opened once in each run, as a batch does, and then
-// run on every piece. The ends of operations are found here and not by `trace::check`: with that in the program the
-// reader has two callers and is not inlined into the batch (D58).
-// Where REPEATS is 0 a trace of any length is run once, while it is read: one buffer is filled again and again. The counts
-// are then told in any case, and after them the last line of the replay program: `end N` after N operations, or `stop R at
-// O`, where the counts are those of the operations before byte O.
+// An array has at most 524,288 elements, so the trace lies in eight pieces, 4 MB together. Each holds whole
+// operations: what a piece has of an operation that it cuts moves to the start of the next. An area is opened once in
+// each run, as a batch does, and then run on every piece. The ends of operations are found here and not by
+// `trace::check`: with that in the program the reader has two callers and is not inlined into the batch (D58). Where
+// REPEATS is 0 a trace of any length is run once, while it is read: one buffer is filled again and again. The counts
+// are then told in any case, and after them the last line of the replay program: `end N` after N operations, or `stop
+// R at O`, where the counts are those of the operations before byte O.
 #![tactic(auto)]
 
-ghost use Rattle.std.specs.Prelude.{◌≡◌, ◌<◌, ◌≤◌, length};
+ghost use Rattle.std.specs.Prelude.{◌≡◌, ◌<◌, ◌≤◌, IfSome, IfOk, length};
 ghost use Rattle.pace.specs.Ready.{Ready};
 
-use batch::{Counts, Ran, Tally};
-use opening::Opened;
+use batch::{Counts, Stopped, Tally};
+use refusals::Refusal;
 use rules::Kind;
 use std::env::Env;
 
@@ -26,13 +27,6 @@ const STDOUT_FILENO: i32 = 1;
 
 const STDERR_FILENO: i32 = 2;
 
-// A word of the command line as a number.
-#[derive(Clone, Copy)]
-enum Word {
-    Number(u64),
-    Bad,
-}
-
 // What is to be run.
 #[derive(Clone, Copy)]
 struct Job {
@@ -41,28 +35,27 @@ struct Job {
     repeats: u64,
 }
 
-// What the command line asks for.
-#[derive(Clone, Copy)]
-enum Asked {
-    Job(Job),
-    Unclear,
-}
+// The bytes of a piece: the longest array that there is.
+const PIECE: usize = 524288;
 
-// How far the input is read: the bytes that the last buffer has, where its whole operations end, and whether the input may go on.
+// The pieces of a trace.
+const PIECES: usize = 8;
+
+// A piece of the trace: how many of its bytes are read, and where its whole operations end.
 #[derive(Clone, Copy)]
-struct Reading {
+struct Piece {
+    bytes: [u8; PIECE],
     filled: usize,
     end: usize,
-    more: bool,
 }
 
-// How far a run is: the counts, the operations done, the bytes passed, and the number of the refusal that stopped it there, or 0.
+// How far a run is: the counts, the operations done, the bytes passed, and the refusal that stopped it there, if any.
 #[derive(Clone, Copy)]
 struct Run {
     counts: Counts,
     done: u64,
     passed: u64,
-    refusal: u8,
+    refusal: Option<Refusal>,
 }
 
 // Where a run that reads stands: the run, how many bytes wait at the start of the buffer, and whether to go on.
@@ -73,169 +66,106 @@ struct Standing {
     more: bool,
 }
 
-// Where the whole operations of four buffers end.
-#[derive(Clone, Copy)]
-struct Ends {
-    first: usize,
-    second: usize,
-    third: usize,
-    fourth: usize,
-}
-
 // ---- the command line
+
 // One more digit; no number here has more than nine.
-fn digit(value: u64, byte: u8) -> Word {
-    if byte < 48 {
-        return Word::Bad;
-    }
-    if 57 < byte {
-        return Word::Bad;
+fn digit(value: u64, byte: u8) -> Option<u64> {
+    if !byte.is_ascii_digit() {
+        return None;
     }
     if 99999999 < value {
-        return Word::Bad;
+        return None;
     }
-    let d = byte - 48;
-    Word::Number(10 * value + d as u64)
+    Some(10 * value + u64::from(byte - b'0'))
 }
 
-// The number that the digits say.
-fn number(digits: &[u8]) -> Word {
-    if digits.len() == 0 {
-        return Word::Bad;
+// The number that the digits say. By hand, since `parse` takes a sign.
+fn number(digits: &[u8]) -> Option<u64> {
+    if digits.is_empty() {
+        return None;
     }
     let mut value: u64 = 0;
-    let mut i: usize = 0;
-    while i < digits.len() {
-        match digit(value, digits[i]) {
-            Word::Number(n) => value = n,
-            Word::Bad => return Word::Bad,
-        }
-        i += 1;
+    for byte in digits {
+        value = digit(value, *byte)?;
     }
-    Word::Number(value)
+    Some(value)
 }
 
-// Argument i as a number; bad where it is missing, or longer than 16 bytes.
-fn argument(env: &impl Env, i: usize) -> Word {
+// Argument i as a number; none where it is missing, or longer than 16 bytes.
+fn argument(env: &impl Env, i: usize) -> Option<u64> {
     let mut text = [0u8; 16];
-    let Ok(n) = env.arg(i, &mut text) else {
-        return Word::Bad;
-    };
+    let n = env.arg(i, &mut text).ok()?;
     number(&text[..n])
 }
 
-// A job of a kind, with the other two words.
-fn job_of(env: &impl Env, kind: Kind) -> Asked {
-    let Word::Number(capacity) = argument(env, 2) else {
-        return Asked::Unclear;
-    };
-    let Word::Number(repeats) = argument(env, 3) else {
-        return Asked::Unclear;
-    };
-    if 1024 < capacity {
-        return Asked::Unclear;
+// The policy that a number names.
+fn kind_of(number: u64) -> Option<Kind> {
+    match number {
+        1 => Some(Kind::Arc),
+        2 => Some(Kind::Car),
+        _ => None,
     }
-    Asked::Job(Job {
+}
+
+// What the command line asks for.
+fn read_job(env: &impl Env) -> Option<Job> {
+    let kind = kind_of(argument(env, 1)?)?;
+    let capacity = argument(env, 2)?;
+    let repeats = argument(env, 3)?;
+    if 1024 < capacity {
+        return None;
+    }
+    Some(Job {
         kind,
         capacity,
         repeats,
     })
 }
 
-// What the command line asks for.
-fn read_job(env: &impl Env) -> Asked {
-    let Word::Number(kind) = argument(env, 1) else {
-        return Asked::Unclear;
-    };
-    match kind {
-        1 => job_of(env, Kind::Arc),
-        2 => job_of(env, Kind::Car),
-        _ => Asked::Unclear,
-    }
-}
-
 // ---- reading the trace
-// A buffer: the longest array that there is.
-fn buffer() -> [u8; 524288]
+
+// The bytes of a piece, or of a trace that is run while it is read. A function, so that a caller's proof has only their
+// number, and not the bytes.
+fn buffer() -> [u8; PIECE]
     ensures { 524288 ≡ length result }
 {
-    [0; 524288]
+    [0; PIECE]
 }
 
-fn least(a: usize, b: usize) -> usize
-    ensures upper_bound { result ≤ a }
-    ensures upper_bound_2 { result ≤ b }
+// The place behind the number at `from`; none where the bytes end before it does. Its form is the batch's to judge.
+fn past_number(bytes: &[u8], from: usize) -> Option<usize>
+    ensures { IfSome result (λ past. (from < past) × (past ≤ length bytes.now)) }
 {
-    if a < b { a } else { b }
+    let last = bytes.get(from..)?.iter().position(|b| *b < 128)?;
+    Some(from + last + 1)
 }
 
-// The place behind the number at `from`, or 0 where the bytes end before it does. Its form is the batch's to judge.
-fn past_number(bytes: &[u8], from: usize) -> usize {
-    let mut at = from;
-    while at < bytes.len() {
-        let b = bytes[at];
-        at += 1;
-        if b < 128 {
-            return at;
-        }
-    }
-    0
-}
-
-// The place behind the operation at a place, or 0 where the bytes end before it does.
-fn past_operation(bytes: &[u8], at: usize) -> usize
-    requires { at < length bytes.now }
+// The place behind the operation at a place; none where the bytes end before it does.
+fn past_operation(bytes: &[u8], at: usize) -> Option<usize>
+    ensures { IfSome result (λ past. (at < past) × (past ≤ length bytes.now)) }
 {
-    let code = bytes[at];
-    if code == 4 {
-        return at + 1;
+    match *bytes.get(at)? {
+        4 => Some(at + 1),
+        2 => past_number(bytes, past_number(bytes, at + 1)?),
+        _ => past_number(bytes, at + 1),
     }
-    let page = past_number(bytes, at + 1);
-    if code != 2 {
-        return page;
-    }
-    if page == 0 {
-        return 0;
-    }
-    past_number(bytes, page)
 }
 
 // Where the whole operations end.
-fn whole(bytes: &[u8]) -> usize {
+fn whole(bytes: &[u8]) -> usize
+    ensures { result ≤ length bytes.now }
+{
     let mut at: usize = 0;
-    while at < bytes.len() {
-        let past = past_operation(bytes, at);
-        if past <= at {
-            return at;
-        }
+    while let Some(past) = past_operation(bytes, at) {
         at = past;
     }
     at
 }
 
-// Where the operations of a buffer with so many bytes end: while the input goes on, the whole ones; else all, whole or not.
+// Where the operations of a buffer with so many bytes end: while the input goes on, the whole ones; else all, whole
+// or not.
 fn end_of(bytes: &[u8], filled: usize, more: bool) -> usize {
-    if !more {
-        return filled;
-    }
-    let n = least(filled, bytes.len());
-    whole(&bytes[..n])
-}
-
-// Copies the bytes `from` to `to` of a buffer to the start of the next, and answers how many they are.
-fn carry(bytes: &[u8], from: usize, to: usize, next: &mut [u8]) -> usize {
-    let past = least(to, bytes.len());
-    let mut at = from;
-    let mut n: usize = 0;
-    while at < past {
-        if next.len() <= n {
-            return n;
-        }
-        next[n] = bytes[at];
-        at += 1;
-        n += 1;
-    }
-    n
+    if more { whole(bytes) } else { filled }
 }
 
 // Reads behind the bytes kept; how many bytes the buffer has then.
@@ -245,54 +175,56 @@ fn refill(bytes: &mut [u8], kept: usize) -> usize
 {
     let room = bytes.len() - kept;
     let got = io::read_full(STDIN_FILENO, &mut bytes[kept..]);
-    if got < room { kept + got } else { kept + room }
+    kept + got.min(room)
 }
 
-// The next buffer is filled, behind the operation that the one before cuts.
-fn read_piece(bytes: &[u8], r: Reading, next: &mut [u8]) -> Reading {
-    if !r.more {
-        return Reading {
-            filled: 0,
-            end: 0,
-            more: false,
-        };
+// A piece is filled, behind the bytes of the operation that the one before cuts.
+fn fill(piece: &mut Piece, carried: &[u8]) {
+    let kept = carried.len().min(PIECE);
+    piece.bytes[..kept].copy_from_slice(&carried[..kept]);
+    piece.filled = refill(&mut piece.bytes, kept);
+    piece.end = end_of(&piece.bytes, piece.filled, piece.filled == PIECE);
+}
+
+// The bytes of the operation that a piece cuts.
+fn cut(piece: &Piece) -> &[u8] {
+    piece.bytes.get(piece.end..piece.filled).unwrap_or(b"")
+}
+
+// The trace is read; whether it fits the pieces. A piece that is not full is the last.
+fn read_trace(pieces: &mut [Piece]) -> bool {
+    let mut carried: &[u8] = b"";
+    let all = pieces.iter_mut();
+    for piece in all {
+        fill(piece, carried);
+        if piece.filled < PIECE {
+            return true;
+        }
+        carried = cut(piece);
     }
-    let carried = carry(bytes, r.end, r.filled, next);
-    let kept = least(carried, next.len());
-    let filled = refill(next, kept);
-    let more = filled == next.len();
-    let end = end_of(next, filled, more);
-    Reading { filled, end, more }
+    false
 }
 
 // ---- running it
 fn start() -> Run {
     Run {
-        counts: Counts {
-            gets: 0,
-            get_hits: 0,
-            updates: 0,
-            new_pages: 0,
-            evictions: 0,
-            steps: 0,
-            removals: 0,
-        },
+        counts: Counts::default(),
         done: 0,
         passed: 0,
-        refusal: 0,
+        refusal: None,
     }
 }
 
 // The counts of two pieces together.
 fn sum(a: Counts, b: Counts) -> Counts {
     Counts {
-        gets: std::num::wrapping_add_u64(a.gets, b.gets),
-        get_hits: std::num::wrapping_add_u64(a.get_hits, b.get_hits),
-        updates: std::num::wrapping_add_u64(a.updates, b.updates),
-        new_pages: std::num::wrapping_add_u64(a.new_pages, b.new_pages),
-        evictions: std::num::wrapping_add_u64(a.evictions, b.evictions),
-        steps: std::num::wrapping_add_u64(a.steps, b.steps),
-        removals: std::num::wrapping_add_u64(a.removals, b.removals),
+        gets: a.gets.wrapping_add(b.gets),
+        get_hits: a.get_hits.wrapping_add(b.get_hits),
+        updates: a.updates.wrapping_add(b.updates),
+        new_pages: a.new_pages.wrapping_add(b.new_pages),
+        evictions: a.evictions.wrapping_add(b.evictions),
+        steps: a.steps.wrapping_add(b.steps),
+        removals: a.removals.wrapping_add(b.removals),
     }
 }
 
@@ -301,19 +233,19 @@ fn joined(r: Run, n: usize, tally: Tally) -> Run {
     let counts = sum(r.counts, tally.counts);
     let ran = tally.ran;
     match ran {
-        Ran::Done(operations) => Run {
+        Ok(operations) => Run {
             counts,
-            done: std::num::wrapping_add_u64(r.done, operations),
-            passed: std::num::wrapping_add_u64(r.passed, n as u64),
-            refusal: 0,
+            done: r.done.wrapping_add(operations),
+            passed: r.passed.wrapping_add(n as u64),
+            refusal: None,
         },
-        Ran::Stopped { number, offset } => Run {
+        Err(Stopped::Trace { refusal, offset }) => Run {
             counts,
             done: r.done,
-            passed: std::num::wrapping_add_u64(r.passed, offset),
-            refusal: number,
+            passed: r.passed.wrapping_add(offset),
+            refusal: Some(refusal),
         },
-        Ran::Refused => r,
+        Err(Stopped::State) => r,
     }
 }
 
@@ -322,101 +254,47 @@ fn run_piece(area: &mut [u64], c: usize, kind: Kind, bytes: &[u8], end: usize, r
     requires { Ready kind c area.old }
     ensures { Ready kind c area.new }
 {
-    if r.refusal != 0 {
+    if r.refusal.is_some() {
         return r;
     }
-    let n = least(end, bytes.len());
+    let n = end.min(bytes.len());
     let tally = batch::run(area, c, kind, &bytes[..n]);
     joined(r, n, tally)
 }
 
-// Four pieces of the trace, one after the other.
-fn run_four(
-    area: &mut [u64],
-    c: usize,
-    kind: Kind,
-    b1: &[u8],
-    b2: &[u8],
-    b3: &[u8],
-    b4: &[u8],
-    ends: Ends,
-    r: Run,
-) -> Run
-    requires { Ready kind c area.old }
-    ensures { Ready kind c area.new }
-{
-    let r1 = run_piece(area, c, kind, b1, ends.first, r);
-    let r2 = run_piece(area, c, kind, b2, ends.second, r1);
-    let r3 = run_piece(area, c, kind, b3, ends.third, r2);
-    run_piece(area, c, kind, b4, ends.fourth, r3)
-}
-
 // All pieces of the trace.
-fn run_eight(
-    area: &mut [u64],
-    c: usize,
-    kind: Kind,
-    b1: &[u8],
-    b2: &[u8],
-    b3: &[u8],
-    b4: &[u8],
-    b5: &[u8],
-    b6: &[u8],
-    b7: &[u8],
-    b8: &[u8],
-    front: Ends,
-    back: Ends,
-) -> Run
+fn run_pieces(area: &mut [u64], c: usize, kind: Kind, pieces: &[Piece]) -> Run
     requires { Ready kind c area.old }
 {
-    let r = run_four(area, c, kind, b1, b2, b3, b4, front, start());
-    run_four(area, c, kind, b5, b6, b7, b8, back, r)
+    let mut r = start();
+    for piece in pieces {
+        r = run_piece(area, c, kind, &piece.bytes, piece.end, r);
+    }
+    r
 }
 
-// The whole trace, on a fresh cache. The area is opened as a batch opens it.
-fn run_once(
-    area: &mut [u64],
-    job: Job,
-    b1: &[u8],
-    b2: &[u8],
-    b3: &[u8],
-    b4: &[u8],
-    b5: &[u8],
-    b6: &[u8],
-    b7: &[u8],
-    b8: &[u8],
-    front: Ends,
-    back: Ends,
-) -> Run {
-    let kind = job.kind;
-    let header = contracts::number(kind);
-    empty_cache::new(area, header, job.capacity);
-    match opening::open(area, kind) {
-        Opened::Cache(c) => run_eight(area, c, kind, b1, b2, b3, b4, b5, b6, b7, b8, front, back),
-        Opened::Refused => start(),
+// A fresh cache, opened as a batch opens it.
+fn fresh(area: &mut [u64], job: Job) -> Result<usize, Refusal>
+    ensures { IfOk result (λ c. Ready job.kind c area.new) }
+{
+    let header = contracts::number(job.kind);
+    empty_cache::new(area, header, job.capacity)?;
+    opening::open(area, job.kind)
+}
+
+// The whole trace, on a fresh cache.
+fn run_once(area: &mut [u64], job: Job, pieces: &[Piece]) -> Run {
+    match fresh(area, job) {
+        Ok(c) => run_pieces(area, c, job.kind, pieces),
+        Err(_) => start(),
     }
 }
 
 // The trace as often as was asked for; the last run.
-fn run_all(
-    area: &mut [u64],
-    job: Job,
-    b1: &[u8],
-    b2: &[u8],
-    b3: &[u8],
-    b4: &[u8],
-    b5: &[u8],
-    b6: &[u8],
-    b7: &[u8],
-    b8: &[u8],
-    front: Ends,
-    back: Ends,
-) -> Run {
+fn run_all(area: &mut [u64], job: Job, pieces: &[Piece]) -> Run {
     let mut last = start();
-    let mut left = job.repeats;
-    while left > 0 {
-        last = run_once(area, job, b1, b2, b3, b4, b5, b6, b7, b8, front, back);
-        left -= 1;
+    for _ in 0..job.repeats {
+        last = run_once(area, job, pieces);
     }
     last
 }
@@ -429,7 +307,8 @@ fn area() -> [u64; 24640]
 }
 
 // ---- running it while it is read
-// Where the operations to run end. A buffer that is full and has no whole operation holds one that no rule reads: it is run, to be refused.
+// Where the operations to run end. A buffer that is full and has no whole operation holds one that no rule reads: it is
+// run, to be refused.
 fn end_to_run(bytes: &[u8], filled: usize, more: bool) -> usize {
     let end = end_of(bytes, filled, more);
     if end == 0 { filled } else { end }
@@ -437,10 +316,8 @@ fn end_to_run(bytes: &[u8], filled: usize, more: bool) -> usize {
 
 // Moves the bytes from a place up to another, or to the end, to the front; how many they are.
 fn to_front(bytes: &mut [u8], from: usize, to: usize) -> usize {
-    if to <= bytes.len() {
-        if from <= to {
-            return input_buffer::keep(bytes, from, to);
-        }
+    if from <= to && to <= bytes.len() {
+        return input_buffer::keep(bytes, from, to);
     }
     0
 }
@@ -450,22 +327,21 @@ fn turn(area: &mut [u64], c: usize, kind: Kind, bytes: &mut [u8], s: Standing) -
     requires { Ready kind c area.old }
     ensures { Ready kind c area.new }
 {
-    let kept = least(s.kept, bytes.len());
+    let kept = s.kept.min(bytes.len());
     let filled = refill(bytes, kept);
     let full = filled == bytes.len();
     let end = end_to_run(bytes, filled, full);
     let before = s.run;
     let run = run_piece(area, c, kind, bytes, end, before);
     let left = to_front(bytes, end, filled);
-    let more = if run.refusal == 0 { full } else { false };
     Standing {
         run,
         kept: left,
-        more,
+        more: full && run.refusal.is_none(),
     }
 }
 
-// A proved loop has to end, and nothing says that the input does: the turns are counted down, from a number that no run uses up.
+// A proved loop has to end, and nothing says that the input does: the turns have a bound, which no run uses up.
 fn run_reading(area: &mut [u64], c: usize, kind: Kind, bytes: &mut [u8]) -> Run
     requires { Ready kind c area.old }
 {
@@ -474,25 +350,20 @@ fn run_reading(area: &mut [u64], c: usize, kind: Kind, bytes: &mut [u8]) -> Run
         kept: 0,
         more: true,
     };
-    let mut turns = u64::MAX;
-    while turns > 0 {
+    for _ in 0..u64::MAX {
         s = turn(area, c, kind, bytes, s);
         if !s.more {
             return s.run;
         }
-        turns -= 1;
     }
     s.run
 }
 
 // The input, on a fresh cache.
 fn run_input(area: &mut [u64], job: Job, bytes: &mut [u8]) -> Run {
-    let kind = job.kind;
-    let header = contracts::number(kind);
-    empty_cache::new(area, header, job.capacity);
-    match opening::open(area, kind) {
-        Opened::Cache(c) => run_reading(area, c, kind, bytes),
-        Opened::Refused => start(),
+    match fresh(area, job) {
+        Ok(c) => run_reading(area, c, job.kind, bytes),
+        Err(_) => start(),
     }
 }
 
@@ -504,124 +375,62 @@ fn tell(n: u64, behind: &[u8]) {
 }
 
 fn tell_counts(n: Counts) {
-    tell(n.gets, b" ");
-    tell(n.get_hits, b" ");
-    tell(n.updates, b" ");
-    tell(n.new_pages, b" ");
-    tell(n.evictions, b" ");
-    tell(n.steps, b" ");
+    for count in [
+        n.gets,
+        n.get_hits,
+        n.updates,
+        n.new_pages,
+        n.evictions,
+        n.steps,
+    ] {
+        tell(count, b" ");
+    }
     tell(n.removals, b"\n");
 }
 
 // The refusal, as the replay program tells it.
-fn tell_stop(r: Run) {
+fn tell_stop(refusal: Refusal, passed: u64) {
     io::write_all(STDOUT_FILENO, b"stop ");
-    tell(r.refusal as u64, b" at ");
-    tell(r.passed, b"\n");
+    tell(u64::from(refusal.number()), b" at ");
+    tell(passed, b"\n");
 }
 
 // The counts, or the refusal.
 fn tell_run(r: Run) {
-    if r.refusal == 0 {
-        tell_counts(r.counts);
-        return;
+    match r.refusal {
+        None => tell_counts(r.counts),
+        Some(refusal) => tell_stop(refusal, r.passed),
     }
-    tell_stop(r);
 }
 
 // The counts, and the last line of the replay program.
 fn tell_read(r: Run) {
     tell_counts(r.counts);
-    if r.refusal == 0 {
-        io::write_all(STDOUT_FILENO, b"end ");
-        tell(r.done, b"\n");
-        return;
+    match r.refusal {
+        None => {
+            io::write_all(STDOUT_FILENO, b"end ");
+            tell(r.done, b"\n");
+        }
+        Some(refusal) => tell_stop(refusal, r.passed),
     }
-    tell_stop(r);
 }
 
-// ---- the buffers: each function reads two, and hands them on
-// The trace is run.
-fn with_all(
-    job: Job,
-    b1: &[u8],
-    b2: &[u8],
-    b3: &[u8],
-    b4: &[u8],
-    b5: &[u8],
-    b6: &[u8],
-    b7: &[u8],
-    b8: &[u8],
-    front: Ends,
-    back: Ends,
-) {
-    let mut area = area();
-    let last = run_all(&mut area, job, b1, b2, b3, b4, b5, b6, b7, b8, front, back);
-    tell_run(last);
-}
+// ---- the two forms of a job
 
-fn with_six(
-    job: Job,
-    b1: &[u8],
-    b2: &[u8],
-    b3: &[u8],
-    b4: &[u8],
-    b5: &[u8],
-    b6: &[u8],
-    front: Ends,
-    fifth: usize,
-    r6: Reading,
-) {
-    let mut b7 = buffer();
-    let mut b8 = buffer();
-    let r7 = read_piece(b6, r6, &mut b7);
-    let r8 = read_piece(&b7, r7, &mut b8);
-    if r8.more {
+// The trace is read whole, and run as often as was asked for.
+fn with_pieces(job: Job) {
+    let mut pieces = [Piece {
+        bytes: [0; PIECE],
+        filled: 0,
+        end: 0,
+    }; PIECES];
+    if !read_trace(&mut pieces) {
         io::write_all(STDERR_FILENO, b"pace: a trace of 4 MB or more\n");
         return;
     }
-    let back = Ends {
-        first: fifth,
-        second: r6.end,
-        third: r7.end,
-        fourth: r8.end,
-    };
-    with_all(job, b1, b2, b3, b4, b5, b6, &b7, &b8, front, back);
-}
-
-fn with_four(job: Job, b1: &[u8], b2: &[u8], b3: &[u8], b4: &[u8], front: Ends, r4: Reading) {
-    let mut b5 = buffer();
-    let mut b6 = buffer();
-    let r5 = read_piece(b4, r4, &mut b5);
-    let r6 = read_piece(&b5, r5, &mut b6);
-    with_six(job, b1, b2, b3, b4, &b5, &b6, front, r5.end, r6);
-}
-
-fn with_two(job: Job, b1: &[u8], b2: &[u8], first: usize, r2: Reading) {
-    let mut b3 = buffer();
-    let mut b4 = buffer();
-    let r3 = read_piece(b2, r2, &mut b3);
-    let r4 = read_piece(&b3, r3, &mut b4);
-    let front = Ends {
-        first,
-        second: r2.end,
-        third: r3.end,
-        fourth: r4.end,
-    };
-    with_four(job, b1, b2, &b3, &b4, front, r4);
-}
-
-fn with_none(job: Job) {
-    let mut b1 = buffer();
-    let mut b2 = buffer();
-    let nothing = Reading {
-        filled: 0,
-        end: 0,
-        more: true,
-    };
-    let r1 = read_piece(b"", nothing, &mut b1);
-    let r2 = read_piece(&b1, r1, &mut b2);
-    with_two(job, &b1, &b2, r1.end, r2);
+    let mut area = area();
+    let last = run_all(&mut area, job, &pieces);
+    tell_run(last);
 }
 
 // The trace is run once, while it is read.
@@ -635,15 +444,15 @@ fn with_one(job: Job) {
 fn do_job(job: Job) {
     if job.repeats == 0 {
         with_one(job);
-        return;
+    } else {
+        with_pieces(job);
     }
-    with_none(job);
 }
 
 fn main(rt: HostRuntime) {
     match read_job(&rt) {
-        Asked::Job(job) => do_job(job),
-        Asked::Unclear => {
+        Some(job) => do_job(job),
+        None => {
             io::write_all(
                 STDERR_FILENO,
                 b"usage: pace KIND CAPACITY REPEATS <TRACE, KIND being 1 ARC or 2 CAR, CAPACITY at most 1024\n",

@@ -1,21 +1,31 @@
-// The test program `states` (oracle/README.md): on each case of standard input the answers, the state after each operation, the counts of the
-// batch and the listing. The operations are public calls; the states are read from the words of the area by docs/LAYOUT.md, and not by the
-// library, so that this is a second reading of them. What is right, crates/states/stdout, comes from the Rust oracle (oracle/make_vectors).
+// The test program `states` (oracle/README.md): on each case of standard input the answers, the state after each
+// operation, the counts of the batch and the listing. The operations are public calls; the states are read from the
+// words of the area by docs/LAYOUT.md, and not by the library, so that this is a second reading of them. What is
+// right, crates/states/stdout, comes from the Rust oracle (oracle/make_vectors).
 #![tactic(auto)]
 
 ghost use Rattle.std.specs.Prelude.{◌≡◌, ◌≤◌, length};
 
 use answers::{Inserted, Reply};
 use batch::Counts;
-use listing::{Listed, Record};
-use numbers::Frame;
+use listing::Record;
+use numbers::Numeral;
+use refusals::Refusal;
 use rules::Kind;
+use test_text::area_words::{behind, capacity, count, next, page_of, word};
 use trace::{Cursor, Found, Operation};
 
-// What is told of a state so far: whether the numbers are told whole, and their digest.
+// How states are told: number by number, or by the digest of the numbers.
+#[derive(Clone, Copy, PartialEq, Eq)]
+enum Mode {
+    Whole,
+    Digest,
+}
+
+// What is told of a state so far: how it is told, and the digest of the numbers.
 #[derive(Clone, Copy)]
 struct Sink {
-    whole: bool,
+    mode: Mode,
     digest: u64,
 }
 
@@ -27,65 +37,6 @@ enum Cells {
     B1,
     B2,
     Free,
-}
-
-// ---- words of an area
-
-fn word(area: &[u64], i: usize) -> u64 {
-    if i < area.len() {
-        return area[i];
-    }
-    0
-}
-
-// The word so far behind another; no area has 65,536 words.
-fn behind(area: &[u64], start: usize, i: usize) -> u64 {
-    if start < 65536 {
-        if i < 65536 {
-            return word(area, start + i);
-        }
-    }
-    0
-}
-
-// The capacity.
-fn capacity(area: &[u64]) -> usize
-    ensures { result ≤ 1024 }
-{
-    let c = word(area, 1);
-    if c <= 1024 {
-        return c as usize;
-    }
-    0
-}
-
-// A count, at most the capacity.
-fn count(area: &[u64], i: usize) -> usize
-    ensures { result ≤ 1024 }
-{
-    let n = word(area, i);
-    if n <= 1024 {
-        return n as usize;
-    }
-    0
-}
-
-// The cell after a cell, links starting at a word.
-fn next(area: &[u64], links: usize, cell: usize) -> usize {
-    if cell < 32768 {
-        let n = behind(area, links, 2 * cell);
-        if n < 32768 {
-            return n as usize;
-        }
-    }
-    0
-}
-
-// The page of a place of the lookup.
-fn page_of(area: &[u64], c: usize, place: usize) -> u64
-    requires { c ≤ 1024 }
-{
-    behind(area, 9 * c + 62, place)
 }
 
 // ---- what is told
@@ -102,11 +53,11 @@ fn mixed(h: u64, n: u64) -> u64 {
 // A number: its text where the state is told whole, and the digest with it.
 fn tell(s: Sink, n: u64) -> Sink {
     let digest = mixed(s.digest, n);
-    if s.whole {
+    if s.mode == Mode::Whole {
         test_text::field(b" ", n);
     }
     Sink {
-        whole: s.whole,
+        mode: s.mode,
         digest,
     }
 }
@@ -115,11 +66,11 @@ fn tell(s: Sink, n: u64) -> Sink {
 fn tell_page(s: Sink, page: u64) -> Sink {
     let low = mixed(s.digest, page % 4294967296);
     let digest = mixed(low, page / 4294967296);
-    if s.whole {
+    if s.mode == Mode::Whole {
         test_text::field(b" ", page);
     }
     Sink {
-        whole: s.whole,
+        mode: s.mode,
         digest,
     }
 }
@@ -146,13 +97,8 @@ fn tell_marks(area: &[u64], c: usize, slot: usize, s: Sink) -> Sink
 fn tell_ghost(area: &[u64], c: usize, start: usize, cell: usize, s: Sink) -> Sink
     requires { c ≤ 1024 }
 {
-    if start < 32768 {
-        if cell < 32768 {
-            let page = page_of(area, c, start + cell);
-            return tell_page(s, page);
-        }
-    }
-    s
+    let page = page_of(area, c, start.saturating_add(cell));
+    tell_page(s, page)
 }
 
 fn tell_cell(area: &[u64], c: usize, cells: Cells, cell: usize, s: Sink) -> Sink
@@ -184,11 +130,9 @@ fn tell_ring(
 {
     let mut told = s;
     let mut cell = next(area, links, sentinel);
-    let mut left = n;
-    while left > 0 {
+    for _ in 0..n {
         told = tell_cell(area, c, cells, cell, told);
         cell = next(area, links, cell);
-        left -= 1;
     }
     told
 }
@@ -285,22 +229,25 @@ fn tell_state(area: &[u64], kind: Kind, steps: u64, s: Sink) -> Sink {
     tell_free(area, c, kind, listed)
 }
 
-// The state's line: whole, or its digest.
-fn digest_of(area: &[u64], kind: Kind, steps: u64, whole: bool) -> u64 {
-    let start = Sink { whole, digest: 0 };
+// The digest of a state, whose numbers are told where the mode says so.
+fn digest_of(area: &[u64], kind: Kind, steps: u64, mode: Mode) -> u64 {
+    let start = Sink { mode, digest: 0 };
     let s = tell_state(area, kind, steps, start);
     s.digest
 }
 
-fn put_state(area: &[u64], kind: Kind, mode: u8, steps: u64) {
-    if mode == 0 {
-        test_text::word(b"state");
-        digest_of(area, kind, steps, true);
-        test_text::word(b"\n");
-        return;
+// The state's line: whole, or its digest.
+fn put_state(area: &[u64], kind: Kind, mode: Mode, steps: u64) {
+    match mode {
+        Mode::Whole => {
+            test_text::word(b"state");
+            digest_of(area, kind, steps, mode);
+        }
+        Mode::Digest => {
+            let digest = digest_of(area, kind, steps, mode);
+            test_text::number(digest);
+        }
     }
-    let digest = digest_of(area, kind, steps, false);
-    test_text::number(digest);
     test_text::word(b"\n");
 }
 
@@ -311,7 +258,7 @@ fn line() -> [u8; 64]
     [0; 64]
 }
 
-fn put_reply(reply: Reply) {
+fn put_reply(reply: Result<Reply, Refusal>) {
     let mut out = line();
     let end = lines::put_reply(&mut out, 0, reply);
     test_text::flush(&out, end);
@@ -323,82 +270,57 @@ fn put_end(n: u64) {
     test_text::flush(&out, end);
 }
 
-fn put_stop(refusal: u8, offset: u64) {
+fn put_stop(refusal: Refusal, offset: u64) {
     let mut out = line();
-    let end = lines::put_stop(&mut out, 0, refusal, offset);
+    let end = lines::put_stop(&mut out, 0, refusal.number(), offset);
     test_text::flush(&out, end);
 }
 
 // ---- the calls
 
 // The replacement steps that an answer tells.
-fn steps_of(inserted: Inserted) -> u64 {
-    match inserted {
-        Inserted::Out { steps, .. } => steps,
+fn steps_of(reply: Result<Reply, Refusal>) -> u64 {
+    match reply {
+        Ok(Reply::Inserted(Inserted::Out { steps, .. })) => steps,
         _ => 0,
     }
 }
 
-// Each call, with its line.
-fn run_get(area: &mut [u64], kind: Kind, page: u64) -> u64 {
-    let r = public_calls::get(area, kind, page);
-    put_reply(Reply::Got(r));
-    0
-}
-
-fn run_insert(area: &mut [u64], kind: Kind, page: u64, frame: u32) -> u64 {
-    let r = public_calls::insert(area, kind, page, frame);
-    put_reply(Reply::Inserted(r));
-    steps_of(r)
-}
-
-fn run_remove(area: &mut [u64], kind: Kind, page: u64) -> u64 {
-    let r = public_calls::remove(area, kind, page);
-    put_reply(Reply::Gone(r));
-    0
-}
-
-fn run_clear(area: &mut [u64], kind: Kind) -> u64 {
-    public_calls::clear(area, kind);
-    put_reply(Reply::Cleared);
-    0
-}
-
-fn run_peek(area: &[u64], kind: Kind, page: u64) -> u64 {
-    let r = public_calls::peek(area, kind, page);
-    put_reply(Reply::Seen(r));
-    0
-}
-
-// The call of an operation, with its line; the replacement steps that it tells.
-fn call(area: &mut [u64], kind: Kind, op: Operation) -> u64 {
-    match op {
-        Operation::Get { page } => run_get(area, kind, page),
-        Operation::Insert { page, frame } => run_insert(area, kind, page, frame),
-        Operation::Remove { page } => run_remove(area, kind, page),
-        Operation::Clear => run_clear(area, kind),
-        Operation::Peek { page } => run_peek(area, kind, page),
-    }
+// The call of an operation.
+fn call(area: &mut [u64], kind: Kind, op: Operation) -> Result<Reply, Refusal> {
+    let reply = match op {
+        Operation::Get { page } => Reply::Got(public_calls::get(area, kind, page)?),
+        Operation::Insert { page, frame } => {
+            Reply::Inserted(public_calls::insert(area, kind, page, frame)?)
+        }
+        Operation::Remove { page } => Reply::Gone(public_calls::remove(area, kind, page)?),
+        Operation::Clear => {
+            public_calls::clear(area, kind)?;
+            Reply::Cleared
+        }
+        Operation::Peek { page } => Reply::Seen(public_calls::peek(area, kind, page)?),
+    };
+    Ok(reply)
 }
 
 // One operation: its line and its state's.
-fn run_one(area: &mut [u64], kind: Kind, mode: u8, op: Operation) {
-    let steps = call(area, kind, op);
-    put_state(area, kind, mode, steps);
+fn run_one(area: &mut [u64], kind: Kind, mode: Mode, op: Operation) {
+    let reply = call(area, kind, op);
+    put_reply(reply);
+    put_state(area, kind, mode, steps_of(reply));
 }
 
 // The last line, where a refusal stops the operations. `head` bytes of the case stand before them.
-fn put_refused(head: u64, number: u8, offset: u64) {
+fn put_refused(head: u64, refusal: Refusal, offset: u64) {
     let stop = test_text::plus(head, offset);
-    put_stop(number, stop);
+    put_stop(refusal, stop);
 }
 
 // The operations one after the other, and the last line.
-fn run_all(area: &mut [u64], kind: Kind, mode: u8, trace: &[u8], head: u64) {
+fn run_all(area: &mut [u64], kind: Kind, mode: Mode, trace: &[u8], head: u64) {
     let mut cursor = Cursor::new();
     let mut done: u64 = 0;
-    let mut turns = u64::MAX;
-    while turns > 0 {
+    for _ in 0..u64::MAX {
         let step = cursor.step(trace);
         let found = step.found;
         match found {
@@ -411,49 +333,37 @@ fn run_all(area: &mut [u64], kind: Kind, mode: u8, trace: &[u8], head: u64) {
                 put_end(done);
                 return;
             }
-            Found::Refused { number, offset } => {
-                put_refused(head, number, offset as u64);
+            Found::Refused { refusal, offset } => {
+                put_refused(head, refusal, offset as u64);
                 return;
             }
         }
-        turns -= 1;
     }
 }
 
 // ---- the batch
 
-fn none() -> Counts {
-    Counts {
-        gets: 0,
-        get_hits: 0,
-        updates: 0,
-        new_pages: 0,
-        evictions: 0,
-        steps: 0,
-        removals: 0,
-    }
-}
-
 fn put_counts(n: Counts) {
-    test_text::field(b"counts ", n.gets);
-    test_text::field(b" ", n.get_hits);
-    test_text::field(b" ", n.updates);
-    test_text::field(b" ", n.new_pages);
-    put_others(n.evictions, n.steps, n.removals);
-}
-
-fn put_others(evictions: u64, steps: u64, removals: u64) {
-    test_text::field(b" ", evictions);
-    test_text::field(b" ", steps);
-    test_text::field(b" ", removals);
+    test_text::word(b"counts");
+    for count in [
+        n.gets,
+        n.get_hits,
+        n.updates,
+        n.new_pages,
+        n.evictions,
+        n.steps,
+        n.removals,
+    ] {
+        test_text::field(b" ", count);
+    }
 }
 
 // The whole trace again by the library's batch: its counts, and the digest of the state it leaves.
 fn run_batch(area: &mut [u64], kind: Kind, trace: &[u8]) {
-    let t = batch::tally_up(area, kind, trace, none());
+    let t = batch::tally_up(area, kind, trace, Counts::default());
     let counts = t.counts;
     put_counts(counts);
-    let digest = digest_of(area, kind, 0, false);
+    let digest = digest_of(area, kind, 0, Mode::Digest);
     test_text::field(b" ", digest);
     test_text::word(b"\n");
 }
@@ -466,23 +376,8 @@ fn put_record(r: Record) {
 }
 
 fn put_records(records: [Record; 1024], n: usize) {
-    let mut i: usize = 0;
-    while i < 1024 {
-        if i >= n {
-            return;
-        }
-        let r = records[i];
-        put_record(r);
-        i += 1;
-    }
-}
-
-// How many records a listing wrote.
-fn listed(answer: Listed) -> usize {
-    match answer {
-        Listed::Count(n) => n as usize,
-        Listed::Room => 0,
-        Listed::Refused => 0,
+    for r in records.iter().take(n) {
+        put_record(*r);
     }
 }
 
@@ -490,95 +385,93 @@ fn put_list(area: &[u64], kind: Kind) {
     let all = listing::list_all(area, kind);
     let answer = all.answer;
     let records = all.records;
-    let n = listed(answer);
-    test_text::field(b"list ", n as u64);
-    put_records(records, n);
+    let n = answer.unwrap_or(0);
+    test_text::field(b"list ", n);
+    put_records(records, n as usize);
     test_text::word(b"\n");
 }
 
 // ---- a case
 
-// A case whose head is read: the calls on one area, and the batch on another.
+// A case whose head is read, of so many bytes: the calls on one area, and the batch on another.
 fn run_case(
     area: &mut [u64],
     other: &mut [u64],
     kind: Kind,
     c: u64,
-    mode: u8,
-    input: &[u8],
-    head: usize,
+    mode: Mode,
+    trace: &[u8],
+    head: u64,
 ) {
-    if head <= input.len() {
-        public_calls::new(area, kind, c);
-        run_all(area, kind, mode, &input[head..], head as u64);
-        public_calls::new(other, kind, c);
-        run_batch(other, kind, &input[head..]);
-        put_list(area, kind);
-    }
+    let _ = public_calls::new(area, kind, c);
+    run_all(area, kind, mode, trace, head);
+    let _ = public_calls::new(other, kind, c);
+    run_batch(other, kind, trace);
+    put_list(area, kind);
 }
 
-// The capacity behind the kind byte.
-fn run_kind(area: &mut [u64], other: &mut [u64], kind: Kind, mode: u8, input: &[u8]) {
-    if input.len() == 0 {
-        return;
-    }
-    let number = numbers::read_frame(&input[1..]);
-    let Frame::Value { value, used } = number else {
-        put_stop(5, 1);
+// The capacity and the operations behind the kind byte.
+fn run_kind(area: &mut [u64], other: &mut [u64], kind: Kind, mode: Mode, bytes: &[u8]) {
+    let Ok(Numeral { value, used }) = numbers::read_frame(bytes) else {
+        put_stop(Refusal::Number, 1);
         return;
     };
     if 1024 < value {
-        put_stop(1, 1);
+        put_stop(Refusal::Capacity, 1);
         return;
     }
-    if used < 65536 {
-        run_case(area, other, kind, value as u64, mode, input, 1 + used);
+    if let Some(trace) = bytes.get(used..) {
+        let head = test_text::plus(1, used as u64);
+        run_case(area, other, kind, value as u64, mode, trace, head);
     }
 }
 
-fn run_input(area: &mut [u64], other: &mut [u64], mode: u8, input: &[u8]) {
-    if input.len() == 0 {
-        put_stop(5, 0);
+fn run_input(area: &mut [u64], other: &mut [u64], mode: Mode, input: &[u8]) {
+    let Some((kind, bytes)) = input.split_first() else {
+        put_stop(Refusal::Number, 0);
         return;
-    }
-    let kind = input[0];
-    match kind {
-        1 => run_kind(area, other, Kind::Arc, mode, input),
-        2 => run_kind(area, other, Kind::Car, mode, input),
-        _ => put_stop(4, 0),
+    };
+    match *kind {
+        1 => run_kind(area, other, Kind::Arc, mode, bytes),
+        2 => run_kind(area, other, Kind::Car, mode, bytes),
+        _ => put_stop(Refusal::Operation, 0),
     }
 }
 
 // ---- standard input
 
+// The mode that a byte asks for.
+fn mode_of(byte: u8) -> Mode {
+    if byte == 0 { Mode::Whole } else { Mode::Digest }
+}
+
 // The bytes of a case behind its mode and its length; whether another case may follow.
-fn run_body(area: &mut [u64], other: &mut [u64], mode: u8, bytes: &mut [u8], n: usize) -> bool {
+fn run_body(area: &mut [u64], other: &mut [u64], mode: Mode, bytes: &mut [u8], n: usize) -> bool {
     if test_text::read(bytes, n) {
-        if n <= bytes.len() {
-            run_input(area, other, mode, &bytes[..n]);
+        if let Some(input) = bytes.get(..n) {
+            run_input(area, other, mode, input);
             return true;
         }
     }
     false
 }
 
+// A case's mode, its length and its bytes; whether another case may follow.
 fn read_case(area: &mut [u64], other: &mut [u64], bytes: &mut [u8]) -> bool {
     if test_text::read(bytes, 3) {
-        let mode = test_text::byte_at(bytes, 0);
+        let mode = mode_of(test_text::byte_at(bytes, 0));
         let n = test_text::pair_at(bytes, 1);
         return run_body(area, other, mode, bytes, n);
     }
     false
 }
 
-// A proved loop has to end, and nothing says that the input does: the turns are counted down, from a number that no run uses up.
+// A proved loop has to end, and nothing says that the input does: the turns have a bound, which no run uses up.
 fn run(area: &mut [u64], other: &mut [u64], bytes: &mut [u8]) {
-    let mut turns = u64::MAX;
-    while turns > 0 {
+    for _ in 0..u64::MAX {
         if !read_case(area, other, bytes) {
             return;
         }
-        turns -= 1;
     }
 }
 

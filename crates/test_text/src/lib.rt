@@ -1,6 +1,9 @@
-// What the test programs read and write. Text goes to standard output at once, with no buffer to be lent: a call then lends one slice at most, and the proofs of the
-// test programs, whose cost grows with every loan, stay small.
+// What the test programs read and write. Text goes to standard output at once, with no buffer to be lent: a call then
+// lends one slice at most, and the proofs of the test programs, whose cost grows with every loan, stay small.
 #![tactic(auto)]
+
+// The words of an area, read by their places.
+pub mod area_words;
 
 // The file descriptors of standard input and standard output.
 const STDIN_FILENO: i32 = 0;
@@ -41,30 +44,18 @@ pub fn read(bytes: &mut [u8], n: usize) -> bool {
 
 // A byte, and two of them as a number, the low one first; 0 past the buffer.
 pub fn byte_at(bytes: &[u8], i: usize) -> u8 {
-    if i < bytes.len() {
-        return bytes[i];
-    }
-    0
-}
-
-fn low_first(a: u8, b: u8) -> usize {
-    a as usize + 256 * (b as usize)
+    bytes.get(i).copied().unwrap_or(0)
 }
 
 pub fn pair_at(bytes: &[u8], i: usize) -> usize {
     if i < 65536 {
-        let a = byte_at(bytes, i);
-        let b = byte_at(bytes, i + 1);
-        return low_first(a, b);
+        let low_first = [byte_at(bytes, i), byte_at(bytes, i + 1)];
+        return usize::from(u16::from_le_bytes(low_first));
     }
     0
 }
 
 // The sum, or 0 where 64 bits do not hold it.
 pub fn plus(a: u64, b: u64) -> u64 {
-    let most = u64::MAX - b;
-    if a <= most {
-        return a + b;
-    }
-    0
+    a.checked_add(b).unwrap_or(0)
 }

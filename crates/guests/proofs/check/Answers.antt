@@ -4,14 +4,11 @@ use Rattle.guests.proofs.check.Goals as goal
 pub loop-guest-init : goal.loop-guest-init
 loop-guest-init c = search laws
 
-pub ready-fine-requires : goal.ready-fine-requires
-ready-fine-requires c = search laws
+pub ready-requires : goal.ready-requires
+ready-requires c = search laws
 
-pub returns-then-not-fine : goal.returns-then-not-fine
-returns-then-not-fine c = search laws
-
-pub overflow_add-guest : goal.overflow_add-guest
-overflow_add-guest c = search laws
+pub returns-then-not-ready : goal.returns-then-not-ready
+returns-then-not-ready c = search laws
 
 pub loop-guest-smaller : goal.loop-guest-smaller
 loop-guest-smaller c = search laws

@@ -5,17 +5,14 @@ use Rattle.guests.proofs.fault.Goals as goal
 pub capacity-c-requires : goal.capacity-c-requires
 capacity-c-requires c = search laws
 
-pub get-got-requires : goal.get-got-requires
-get-got-requires c = search laws
+pub get-requires : goal.get-requires
+get-requires c = search laws
 
-pub insert-r-requires : goal.insert-r-requires
-insert-r-requires c = search laws
+pub insert-requires : goal.insert-requires
+insert-requires c = search laws
 
-pub returns-in-Hit : goal.returns-in-Hit
-returns-in-Hit c = search laws
+pub returns-in-Some : goal.returns-in-Some
+returns-in-Some c = search laws
 
-pub returns-in-Miss : goal.returns-in-Miss
-returns-in-Miss c = search laws
-
-pub returns-in-Refused : goal.returns-in-Refused
-returns-in-Refused c = search laws
+pub returns-in-None : goal.returns-in-None
+returns-in-None c = search laws

@@ -24,10 +24,6 @@ slice_bounds-open-end c = search laws
 pub open-requires : goal.open-requires
 open-requires c = search laws
 
-pub returns-in-Cache : goal.returns-in-Cache
+pub returns : goal.returns
 unfolding part
-returns-in-Cache c = search laws
-
-pub returns-in-Refused : goal.returns-in-Refused
-unfolding part
-returns-in-Refused c = search laws
+returns c = search laws

@@ -23,14 +23,11 @@ offset_bounds-frames-i c = search laws
 pub bounds-frames-i : goal.bounds-frames-i
 bounds-frames-i c = search laws
 
-pub step-hit-requires : goal.step-hit-requires
-step-hit-requires c = search laws
+pub step-n-requires : goal.step-n-requires
+step-n-requires c = search laws
 
 pub overflow_add-n : goal.overflow_add-n
 overflow_add-n c = search laws
-
-pub overflow_add-i : goal.overflow_add-i
-overflow_add-i c = search laws
 
 pub loop-i-smaller : goal.loop-i-smaller
 loop-i-smaller c = search laws

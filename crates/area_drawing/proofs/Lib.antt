@@ -1,1 +1,0 @@
--- The proofs of `area_drawing`. Assumes nothing.

@@ -1,9 +1,0 @@
--- `area_drawing::put_row` asks nothing. The loop's invariant is empty. The measure is the words that are left. Assumes nothing.
-use Prim.Native.Nat.{◌-◌}
-use Rattle.area_drawing.proofs.put_row.Given as goal
-
-abbrev pub invariant-loop-k : goal.invariant-loop-k
-invariant-loop-k l = Unit {0}
-
-abbrev pub decreases-loop-k : goal.decreases-loop-k
-decreases-loop-k l = l.n - l.k

@@ -1,1 +1,0 @@
--- The proofs of `hostile`. Assumes nothing.

@@ -1,2 +1,0 @@
--- The laws of `pace`. Assumes nothing.
-pub mod Laws

@@ -1,9 +1,0 @@
--- `pace::past_number` is safe and ends. The measure is the bytes left. Assumes nothing.
-use Rattle.std.proofs.Common.{◌-◌, length}
-use Rattle.pace.proofs.past_number.Given as goal
-
-abbrev pub invariant-loop-at : goal.invariant-loop-at
-invariant-loop-at l = Unit {0}
-
-abbrev pub decreases-loop-at : goal.decreases-loop-at
-decreases-loop-at l = length l.bytes - l.at

@@ -1,2 +1,0 @@
--- The laws of `test_text`. Assumes nothing.
-pub mod Laws
