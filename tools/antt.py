@@ -1,13 +1,13 @@
 """Reads definitions from .antt files: their clauses, the right sides as trees, and the types of names.
 
-It reads what the definitions of numbers, trace and rules are written in, and stops at anything else. A type is a
+It reads what the definitions of refusals, numbers, trace and rules are written in, and stops at anything else. A type is a
 text: two types are the same where their texts are.
 """
 import os
 import re
 
 ROOT = os.path.dirname(os.path.dirname(os.path.abspath(__file__)))
-CRATES = ('numbers', 'trace', 'rules')
+CRATES = ('refusals', 'numbers', 'trace', 'rules')
 PATH = r'Rattle\.(%s)\.(specs|proofs)\.(\w+)' % '|'.join(CRATES)
 TOKEN = re.compile(r'"(?:[^"\\]|\\.)*"|[(){};,]|[^\s(){};,"]+')
 
@@ -217,7 +217,7 @@ class Definition:
 
 
 class Module:
-    """A file: what it imports, the modules of the three crates that it uses, and once read its definitions."""
+    """A file: what it imports, the modules of the crates that it uses, and once read its definitions."""
 
     DECLARED = re.compile(r' *(?:(?:abbrev|unfoldable|pub) )*([^\s:(){}]+) : (.*)')
 
@@ -225,13 +225,13 @@ class Module:
         self.key = (crate, folder, name)
         self.path = 'crates/%s/%s/%s.antt' % self.key
         self.text = content(self.path) if text is None else text
-        self.definitions, self.imports, self.uses, self.named = {}, {}, set(), set()
+        self.definitions, self.imports, self.uses, self.named = {}, {}, set(), {}
         for m in re.finditer(r'^use (\S+?)(?:\.\{(.*)\})?(?: as (\S+))?$', self.text, re.M):
             where = re.fullmatch(PATH, m[1])
             if where and where[3] != 'declared':
                 self.uses.add(where.groups())
             if m[2] is None:
-                self.named.add(m[3] or m[1].rpartition('.')[2])
+                self.named[m[3] or m[1].rpartition('.')[2]] = m[1]
             for item in (m[2] or '').split(', '):
                 original, _, alias = item.partition(' as ')
                 self.imports[alias or original] = (m[1], original)
@@ -267,7 +267,7 @@ class Module:
 
 
 class Definitions:
-    """The definitions of the three crates, and the modules that a table of their values needs.
+    """The definitions of the crates, and the modules that a table of their values needs.
 
     `kinds` has for each type where it is declared, and its constructors with the types of their arguments; `records`
     the fields of each record with their types; `source` the enums and structs of the crates."""
@@ -303,9 +303,9 @@ class Definitions:
     def read_source(self, text):
         def types(fields):
             named = [f.split(':')[-1].strip() for f in fields.split(',') if f.strip()]
-            return ['ℕ' if re.fullmatch(r'u\d+|usize', t) else t for t in named]
+            return ['ℕ' if re.fullmatch(r'u\d+|usize|T', t) else re.sub(r'<(\w+)>', r' \1', t) for t in named]
 
-        for m in re.finditer(r'^pub (enum|struct) (\w+) \{\n(.*?)^\}\n', text, re.M | re.S):
+        for m in re.finditer(r'^pub (enum|struct) (\w+)(?:<T>)? \{\n(.*?)^\}\n', text, re.M | re.S):
             self.source += '#[derive(Clone, Copy)]\n' + m[0]
             if m[1] == 'struct':
                 self.records.append({n: types(t)[0] for n, t in re.findall(r'^    pub (\w+): (.*),$', m[3], re.M)})
@@ -333,7 +333,8 @@ class Definitions:
         """The constructors of a constructor's type, and what it is called among them; None where it is none."""
         if name in module.definitions:
             return None
-        where, original = module.imports.get(name, ('', name))
+        first, dot, own = name.partition('.')
+        where, original = (module.named[first], own) if dot and first in module.named else module.imports.get(name, ('', name))
         path, enum = re.fullmatch(PATH, where), re.search(r'declared\.(\w+)\.TheVariants$', where)
         place = path.groups() if path else enum[1] if enum else where or module.key
         return next(((kind, original) for home, kind in self.kinds if home == place and original in kind), None)
@@ -344,11 +345,14 @@ class Definitions:
         if not found:
             return None
         kind, own = found
+        first, dot, _ = name.partition('.')
         where, _ = module.imports.get(name, ('', name))
         names = list(kind)
         at = names.index(own)
         for n in names[at + 1:] + names[:at]:
             if kind[n] == kind[own]:
+                if dot:
+                    return first + dot + n
                 called = [a for a, source in module.imports.items() if source == (where, n)]
                 if called or n not in module.imports:
                     return called[0] if called else n
@@ -378,10 +382,10 @@ class Definitions:
                 bind(words[:at], element(kind, 'List'))
                 bind(words[at + 1:], kind)
             elif len(words) == 1:
-                if head not in ('[]', 'none', 'zero') and not self.constructor(module, head):
+                if head not in ('[]', 'none', 'None', 'zero') and not self.constructor(module, head):
                     found[head] = kind
             else:
-                known = {'suc': ['ℕ'], 'some': [element(kind, 'Option')]}.get(head)
+                known = {'suc': ['ℕ'], 'some': [element(kind, 'Option')], 'Some': [element(kind, 'Option')]}.get(head)
                 made = self.constructor(module, head)
                 for g, t in zip(groups(words[1:]), known or (made[0][made[1]] if made else ['?'] * len(words))):
                     bind(g, t)
