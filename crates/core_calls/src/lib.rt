@@ -31,6 +31,7 @@ pub trait Policy {
 }
 
 // ARC.
+#[derive(Clone, Copy)]
 pub struct Arc {}
 
 impl Policy for Arc {
@@ -40,6 +41,7 @@ impl Policy for Arc {
 }
 
 // CAR.
+#[derive(Clone, Copy)]
 pub struct Car {}
 
 impl Policy for Car {
@@ -48,9 +50,18 @@ impl Policy for Car {
     const KIND: Kind = Kind::Car;
 }
 
-// The calls of a policy: `arc_core::ArcCore` and `car_core::CarCore` are this at `Arc` and `Car`. It has no values.
+// The calls of a policy: `arc_core::ArcCore` and `car_core::CarCore` are this at `Arc` and `Car`. A value holds nothing,
+// and no call takes one.
+#[derive(Clone, Copy)]
 pub struct Core<P> {
-    policy: PhantomData<P>,
+    pub policy: PhantomData<P>,
+}
+
+// The type is a policy too, so that a clause can name the kind of the policy that a name for it stands for.
+impl<P: Policy> Policy for Core<P> {
+    ghost KIND = { P.KIND };
+
+    const KIND: Kind = P::KIND;
 }
 
 // The largest capacity stands at each policy: a constant of `impl<P>` is a function to the check, in a file whose name
@@ -77,6 +88,14 @@ impl Core<Car> {
 }
 
 impl<P: Policy> Core<P> {
+    // The kind that the calls are by. A name for this type at one policy is held to it by a function of its own, whose
+    // contract says the kind of what the name stands for: `arc_core::kind`, `car_core::kind`.
+    pub fn kind() -> Kind
+        ensures { result ≡ P.KIND }
+    {
+        P::KIND
+    }
+
     // The words that a cache of capacity c needs, 24c + 64. Past the largest capacity, which `new` refuses, those of
     // the largest.
     pub fn words(c: u64) -> u64
