@@ -142,9 +142,10 @@ fn past_number(bytes: &[u8], from: usize) -> Option<usize>
 
 // The place behind the operation at a place; none where the bytes end before it does.
 fn past_operation(bytes: &[u8], at: usize) -> Option<usize>
+    requires { at < length bytes.now }
     ensures { IfSome result (λ past. (at < past) × (past ≤ length bytes.now)) }
 {
-    match *bytes.get(at)? {
+    match bytes[at] {
         4 => Some(at + 1),
         2 => past_number(bytes, past_number(bytes, at + 1)?),
         _ => past_number(bytes, at + 1),
@@ -156,7 +157,10 @@ fn whole(bytes: &[u8]) -> usize
     ensures { result ≤ length bytes.now }
 {
     let mut at: usize = 0;
-    while let Some(past) = past_operation(bytes, at) {
+    while at < bytes.len() {
+        let Some(past) = past_operation(bytes, at) else {
+            return at;
+        };
         at = past;
     }
     at
