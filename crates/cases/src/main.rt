@@ -359,8 +359,7 @@ fn run_all(area: &mut [u64], kind: Kind, trace: &[u8]) {
                 return;
             }
             Found::Refused { refusal, .. } => {
-                test_text::word(b" ");
-                put_refusal(refusal);
+                test_text::field(b" refusal ", u64::from(refusal.number()));
                 return;
             }
         }
@@ -573,7 +572,7 @@ fn put_ran(ran: Result<u64, Stopped>) {
             put_refusal(refusal);
             test_text::field(b" at ", offset);
         }
-        Err(Stopped::State) => put_refusal(Refusal::State),
+        Err(Stopped::State) => test_text::word(b"refusal 3"),
     }
 }
 
@@ -596,6 +595,8 @@ fn try_batch(area: &mut [u64], other: &[u64], name: &[u8], kind: Kind, trace: &[
 fn put_listed(answer: Result<u64, Refusal>) {
     match answer {
         Ok(n) => test_text::field(b"listed ", n),
+        Err(Refusal::Room) => test_text::word(b"refusal 6"),
+        Err(Refusal::State) => test_text::word(b"refusal 3"),
         Err(refusal) => put_refusal(refusal),
     }
 }

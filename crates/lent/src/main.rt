@@ -54,12 +54,12 @@ fn put_ran(ran: Result<u64, Stopped>) {
             put_refusal(refusal);
             test_text::field(b" at ", offset);
         }
-        Err(Stopped::State) => put_refusal(Refusal::State),
+        Err(Stopped::State) => test_text::word(b"refusal 3"),
     }
 }
 
 fn put_counts(n: Counts) {
-    test_text::word(b"; counts");
+    let mut before: &[u8] = b"; counts ";
     for count in [
         n.gets,
         n.get_hits,
@@ -69,15 +69,17 @@ fn put_counts(n: Counts) {
         n.steps,
         n.removals,
     ] {
-        test_text::field(b" ", count);
+        test_text::field(before, count);
+        before = b" ";
     }
 }
 
 fn put_listed(answer: Result<u64, Refusal>) {
-    test_text::word(b"; ");
     match answer {
-        Ok(n) => test_text::field(b"listed ", n),
-        Err(refusal) => put_refusal(refusal),
+        Ok(n) => test_text::field(b"; listed ", n),
+        Err(Refusal::Room) => test_text::word(b"; refusal 6"),
+        Err(Refusal::State) => test_text::word(b"; refusal 3"),
+        Err(refusal) => test_text::field(b"; refusal ", u64::from(refusal.number())),
     }
 }
 

@@ -344,7 +344,7 @@ fn run_all(area: &mut [u64], kind: Kind, mode: Mode, trace: &[u8], head: u64) {
 // ---- the batch
 
 fn put_counts(n: Counts) {
-    test_text::word(b"counts");
+    let mut before: &[u8] = b"counts ";
     for count in [
         n.gets,
         n.get_hits,
@@ -354,7 +354,8 @@ fn put_counts(n: Counts) {
         n.steps,
         n.removals,
     ] {
-        test_text::field(b" ", count);
+        test_text::field(before, count);
+        before = b" ";
     }
 }
 
